@@ -1,0 +1,57 @@
+-- The calls on a state image: each is the record's call, between a load and a save.
+use Prim.Native.Nat.{ℕ, _+_, _*_, _^_}
+use mathlib.Core.List.{List}
+use Rattle.numbers.specs.Choose.{choose}
+use Rattle.numbers.specs.declared.bytes.Write.{Write}
+use Rattle.parts.specs.declared.refusals.Refusal.{Refusal}
+use Rattle.parts.specs.Refusals.{isAccepted, numberOf}
+use Rattle.coprocessor.specs.declared.Drawn.{Drawn}
+use Rattle.coprocessor.specs.declared.Found.{Found}
+use Rattle.coprocessor.specs.Fresh.{freshAnswer}
+use Rattle.coprocessor.specs.Reads.{readAnswer}
+use Rattle.coprocessor.specs.Writes.{writeAnswer}
+use Rattle.coprocessor.specs.Runs.{runAnswer, runMemory}
+use Rattle.coprocessor.specs.Images.{loads, loaded, saveRefusal, saved}
+
+-- 01, refusal 10: what every call but a fresh one answers for an image that does not load
+abbrev pub noImage : ℕ
+noImage = 10
+
+-- a refusal and a value in one number of 64 bits
+unfoldable pub answerOf : Refusal → ℕ → ℕ
+answerOf refusal value = numberOf refusal * 2 ^ 32 + value
+
+-- a fresh state: 10 for a buffer not of 115 bytes, which stays
+unfoldable pub freshNumber : List ℕ → ℕ → ℕ
+freshNumber image size =
+    choose (isAccepted (saveRefusal (freshAnswer size .coprocessor) image)) (numberOf (freshAnswer size .refusal)) noImage
+
+unfoldable pub freshImage : List ℕ → ℕ → List ℕ
+freshImage image size = saved (freshAnswer size .coprocessor) image
+
+-- a write
+unfoldable pub writeNumber : List ℕ → Write → ℕ
+writeNumber image w = choose (loads image) (numberOf (writeAnswer w (loaded image) .refusal)) noImage
+
+unfoldable pub writeImage : List ℕ → Write → List ℕ
+writeImage image w = choose (loads image) (saved (writeAnswer w (loaded image) .coprocessor) image) image
+
+-- a read
+unfoldable pub readNumber : List ℕ → ℕ → ℕ → ℕ
+readNumber image offset length =
+    choose (loads image) (answerOf (readAnswer (loaded image) offset length .refusal) (readAnswer (loaded image) offset length .value)) (noImage * 2 ^ 32)
+
+-- a run
+unfoldable pub runNumber : List ℕ → List ℕ → ℕ → ℕ
+runNumber image memory n =
+    choose (loads image) (answerOf (runAnswer (loaded image) memory n .refusal) (runAnswer (loaded image) memory n .done)) (noImage * 2 ^ 32)
+
+unfoldable pub runImage : List ℕ → List ℕ → ℕ → List ℕ
+runImage image memory n = choose (loads image) (saved (runAnswer (loaded image) memory n .coprocessor) image) image
+
+unfoldable pub runBytes : List ℕ → List ℕ → ℕ → List ℕ
+runBytes image memory n = choose (loads image) (runMemory (loaded image) memory n) memory
+
+-- whether an image loads
+unfoldable pub loadNumber : List ℕ → ℕ
+loadNumber image = choose (loads image) 0 noImage

@@ -1,0 +1,75 @@
+-- What an accepted write says of the write and the record: each test that could refuse it was passed, in the order of the refusals; so what a write leaves is one of three records.
+use mathlib.Core.Path.{_≡_, refl, sym, _∙_}
+use mathlib.Core.Bool.{Bool, true, false, not, _&&_, _||_, false≢true}
+use Rattle.numbers.specs.Choose.{choose}
+use Rattle.numbers.specs.declared.bytes.Write.{Write}
+use Rattle.parts.specs.declared.refusals.Refusal.{Refusal}
+use Rattle.parts.specs.Refusals.{isAccepted}
+use Rattle.parts.specs.Drawings.{unfinished}
+use Rattle.parts.specs.Latches.{touched}
+use Rattle.parts.specs.Registers.{placed, listed}
+use Rattle.rules.specs.Operations.{isLine, isCodes, isBlock, draws}
+use borrow.Author.Tests.{not-true, not-false}
+use Rattle.coprocessor.specs.declared.Coprocessor.{Coprocessor}
+use Rattle.coprocessor.specs.Valid.{startRefusalOf, validOf}
+use Rattle.coprocessor.specs.Writes.{merged, startsBy, started, startedRefusal, storeRefusal, writeRefusal, settledBy, writeAnswer}
+use Rattle.coprocessor.proofs.Choices.{by-test}
+
+-- a refusal that comes first is not there where the whole is accepted, and the rest is accepted
+passed : (t : Bool) (first rest : Refusal) → (t ≡ true → isAccepted first ≡ false) → isAccepted (choose t first rest) ≡ true
+    → (t ≡ false) × (isAccepted rest ≡ true)
+passed true first rest refused e = absurd (false≢true (sym (refused refl) ∙ e))
+passed false first rest refused e = (refl, e)
+
+module _ (w : Write) (c : Coprocessor) where
+  -- 01, Numbers a call answers with: none of 1, 2, 3, 5 to 8 and 10
+  pub record Allowed : Type 0 where
+    pub place : placed (w .offset) (w .length) ≡ true
+    pub idle : unfinished (c .drawing) ≡ false
+    pub registers : listed (w .length) (w .offset) ≡ true
+    pub rules : isAccepted (startedRefusal w (merged w c)) ≡ true
+    pub valid : validOf c ≡ true
+
+  pub accepted-allowed : isAccepted (writeRefusal w c) ≡ true → Allowed
+  unfolding storeRefusal writeRefusal
+  accepted-allowed e =
+      let place = passed (not (placed (w .offset) (w .length))) _ _ (λ t. refl) e in
+      let idle = passed (unfinished (c .drawing)) _ _ (λ t. refl) (place .1) in
+      let registers = passed (not (listed (w .length) (w .offset))) _ _ (λ t. refl) (idle .1) in
+      let function = passed (touched 1 0x7F w && not (draws (merged w c .operations))) _ _ (λ t. refl) (registers .1) in
+      let rules = passed (not (isAccepted (startedRefusal w (merged w c)))) _ _ (not-true _) (function .1) in
+      let valid = passed (not (validOf c)) _ _ (λ t. refl) (rules .1) in
+      record
+      { place = not-false _ (place .0); idle = idle .0; registers = not-false _ (registers .0); rules = not-false _ (rules .0); valid = not-false _ (valid .0) }
+
+-- ---- where the write starts a drawing
+
+-- a start is of a line, a block or codes, whichever byte starts it
+some-function : (a b line codes block : Bool) → ((a && (line || block)) || (b && codes)) ≡ true → (line || codes || block) ≡ true
+some-function a b true codes block e = refl
+some-function a b false true block e = refl
+some-function a b false false true e = refl
+some-function true true false false false e = e
+some-function true false false false false e = e
+some-function false true false false false e = e
+some-function false false false false false e = e
+
+pub start-draws : (w : Write) (c : Coprocessor) → startsBy w c ≡ true → draws (c .operations) ≡ true
+unfolding startsBy draws
+start-draws w c =
+    some-function (touched 1 0x7F w) (touched 1 0x2F w) (isLine (c .operations)) (isCodes (c .operations)) (isBlock (c .operations))
+
+pub start-rules : (w : Write) (c : Coprocessor) → isAccepted (startedRefusal w c) ≡ true → startsBy w c ≡ true → isAccepted (startRefusalOf c) ≡ true
+unfolding startedRefusal
+start-rules w c e starts = rw starts at e
+
+-- ---- the record after any write
+
+-- what holds of the record, of the one with the write stored, and of the one with a drawing started, holds of what the write leaves
+pub by-write : (w : Write) (c : Coprocessor) (P : Coprocessor → Type 0) → (isAccepted (writeRefusal w c) ≡ false → P c)
+    → (isAccepted (writeRefusal w c) ≡ true → startsBy w (merged w c) ≡ false → P (merged w c))
+    → (isAccepted (writeRefusal w c) ≡ true → startsBy w (merged w c) ≡ true → P (started (w .length) (merged w c)))
+    → P (writeAnswer w c .coprocessor)
+unfolding settledBy writeAnswer
+by-write w c P refused stored starts =
+    by-test P (isAccepted (writeRefusal w c)) (λ e. by-test P (startsBy w (merged w c)) (starts e) (stored e)) refused

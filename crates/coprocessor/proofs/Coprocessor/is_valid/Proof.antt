@@ -1,0 +1,35 @@
+-- `is_valid` is refusal 10 on a record: size, reductions and the drawing, joined.
+use Rattle.coprocessor.specs.Valid.{validOf}
+use borrow.Author.Needs.{needs}
+use Rattle.coprocessor.proofs.Coprocessor.is_valid.Statement.{statement}
+use Rattle.coprocessor.proofs.Coprocessor.is_valid.Tie as tie
+
+size-holds-requires : tie.Need-size-holds-requires
+size-holds-requires c κs = search needs
+
+is-reduced-requires : tie.Need-is-reduced-requires
+is-reduced-requires c κs = search needs
+
+both-requires : tie.Need-both-requires
+both-requires c κs = search needs
+
+goes-on-requires : tie.Need-goes-on-requires
+goes-on-requires c κs = search needs
+
+both-requires-2 : tie.Need-both-requires-2
+both-requires-2 c κs = search needs
+
+returns : tie.Need-returns
+unfolding validOf
+returns c = rw (c .both2 .ensures, c .before .goes-on .ensures, c .before .before .both .ensures, c .before .before .before .is-reduced .ensures, c .before .before .before .before .size-holds .ensures)
+
+pub is-valid-spec : {M : Type 1} → statement M
+is-valid-spec =
+    tie.close
+    (tie.spec
+    size-holds-requires
+    is-reduced-requires
+    both-requires
+    goes-on-requires
+    both-requires-2
+    returns)

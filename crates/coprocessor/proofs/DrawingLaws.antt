@@ -1,0 +1,89 @@
+-- A drawing that fits the stored function is the one that its counters make, and its counters fit their bytes, since a position remains at them.
+use mathlib.Core.Path.{_≡_, refl}
+use mathlib.Core.Bool.{true, false, _||_}
+use mathlib.Core.Logic.{⊎-elim}
+use Prim.Native.Nat.{ℕ, _<_}
+use native.Mathlib.Omega.{arith}
+use lib.Dec.{eqb}
+use borrow.Author.Tests.{eq-eqb, eqb-true}
+use Rattle.parts.specs.declared.shapes.Point.{Point}
+use Rattle.parts.specs.declared.drawing.Drawing.{Drawing}
+use Rattle.parts.specs.declared.drawing.Drawing.the-variants.{Nothing, Line, Codes, Block}
+use Rattle.parts.specs.Drawings.{unfinished}
+use Rattle.parts.specs.Reduced.{pointReduced}
+use Rattle.rules.specs.Operations.{isLine, isCodes, isBlock, functionOf}
+use Rattle.rules.specs.Going.{countersHold}
+use Rattle.rules.proofs.Conjunctions.{and-l, and-r}
+use Rattle.rules.proofs.CounterLaws.{line-held, codes-held, block-held}
+use Rattle.coprocessor.specs.declared.images.Counters.{Counters}
+use Rattle.coprocessor.specs.Images.{countersOf, drawingOf, sameCounters}
+use Rattle.coprocessor.proofs.PlaceLaws.{or-cases, lengths}
+use Rattle.coprocessor.proofs.ValidFields.{point-bounds}
+
+-- ---- the three kinds of functions
+
+-- what holds of two numbers holds of one that is either of them
+either : (P : ℕ → Type 0) (n a b : ℕ) → (eqb n a || eqb n b) ≡ true → P a → P b → P n
+either P n a b e p q = ⊎-elim (λ t. rw (eqb-true n a t) p) (λ t. rw (eqb-true n b t) q) (or-cases (eqb n a) (eqb n b) e)
+
+codes-no-line : (operations : ℕ) → isCodes operations ≡ true → isLine operations ≡ false
+unfolding isCodes isLine
+codes-no-line operations e = either (λ (f : ℕ). (eqb f 3 || eqb f 5) ≡ false) (functionOf operations) 2 4 e refl refl
+
+block-no-line : (operations : ℕ) → isBlock operations ≡ true → isLine operations ≡ false
+unfolding isBlock isLine
+block-no-line operations e = either (λ (f : ℕ). (eqb f 3 || eqb f 5) ≡ false) (functionOf operations) 8 9 e refl refl
+
+block-no-codes : (operations : ℕ) → isBlock operations ≡ true → isCodes operations ≡ false
+unfolding isBlock isCodes
+block-no-codes operations e = either (λ (f : ℕ). (eqb f 2 || eqb f 4) ≡ false) (functionOf operations) 8 9 e refl refl
+
+-- ---- the drawing and its counters
+
+pub record CountersFit (k : Counters) : Type 0 where
+  pub state : k .state < 256
+  pub done : k .done < 65536
+  pub gone : k .gone < 65536
+  pub count : k .count < 256
+
+module _ (operations : ℕ) (dimensions : Point) (steps : ℕ) where
+  pub drawing-counted : (d : Drawing) → (unfinished d ≡ true → countersHold operations dimensions steps d ≡ true) → drawingOf operations (countersOf d) ≡ d
+  unfolding drawingOf countersOf
+  drawing-counted (Nothing true) holds = refl
+  drawing-counted (Nothing false) holds = refl
+  drawing-counted (Line done) holds = rw (line-held operations dimensions steps done (holds refl) .function)
+  drawing-counted (Codes count code done) holds =
+      let function = codes-held operations dimensions steps count code done (holds refl) .function in
+      rw (codes-no-line operations function, function)
+  drawing-counted (Block column row) holds =
+      let function = block-held operations dimensions steps column row (holds refl) .function in
+      rw (block-no-line operations function, block-no-codes operations function)
+
+  pub counters-fit : pointReduced dimensions ≡ true → (d : Drawing) → (unfinished d ≡ true → countersHold operations dimensions steps d ≡ true)
+      → CountersFit (countersOf d)
+  unfolding countersOf
+  counters-fit r (Nothing true) holds = omega arith
+  counters-fit r (Nothing false) holds = omega arith
+  counters-fit r (Line done) holds = omega (arith, line-held operations dimensions steps done (holds refl) .within, point-bounds dimensions r .x)
+  counters-fit r (Codes count code done) holds =
+      let held = codes-held operations dimensions steps count code done (holds refl) in
+      ⊎-elim (λ p. omega arith) (⊎-elim (λ p. omega arith) (λ p. omega arith)) (lengths count (held .counted))
+  counters-fit r (Block column row) holds =
+      let held = block-held operations dimensions steps column row (holds refl) in
+      let bounds = point-bounds dimensions r in
+      omega arith
+
+-- ---- whether two are the same
+
+pub counters-same : (k : Counters) → sameCounters k k ≡ true
+unfolding sameCounters
+counters-same k = rw (eq-eqb (k .state) (k .state) refl, eq-eqb (k .done) (k .done) refl, eq-eqb (k .gone) (k .gone) refl, eq-eqb (k .count) (k .count) refl)
+
+pub same-counters : (j k : Counters) → sameCounters j k ≡ true → j ≡ k
+unfolding sameCounters
+same-counters j k e =
+    let state = eqb-true (j .state) (k .state) (search (and-l, and-r)) in
+    let done = eqb-true (j .done) (k .done) (search (and-l, and-r)) in
+    let gone = eqb-true (j .gone) (k .gone) (search (and-l, and-r)) in
+    let count = eqb-true (j .count) (k .count) (search and-r) in
+    λ i. record { state = state i; done = done i; gone = gone i; count = count i }

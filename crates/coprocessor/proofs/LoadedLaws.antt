@@ -1,0 +1,158 @@
+-- Bytes that load are the image of the record that they load to: each field of it is read from where it is laid.
+use mathlib.Core.Path.{_≡_, refl, sym, ap, _∙_}
+use mathlib.Core.Bool.{true}
+use mathlib.Core.List.{List, [], _∷_, _++_}
+use Prim.Native.Nat.{ℕ, zero, suc, _+_, _*_, _%_, _^_, _≤_, _<_}
+use native.Mathlib.Omega.{arith}
+use lib.Dec.{lit<}
+use lib.ListN.{length, getD, take, drop, take-append-drop, drop-of-length-le}
+use lib.Seq.{drop-drop}
+use mir.Syntax.{w16, w32}
+use mir.Val.{toZ}
+use borrow.Author.Tests.{eq-eqb, eqb-true}
+use Rattle.numbers.specs.Bytes.{le}
+use Rattle.numbers.specs.Circles.{residue}
+use Rattle.pixels.specs.declared.Map.{Map}
+use Rattle.rules.specs.Maps.{freshMap, mapAt}
+use Rattle.rules.proofs.Conjunctions.{and-l, and-r}
+use Rattle.coprocessor.specs.Valid.{validOf}
+use Rattle.coprocessor.specs.Reads.{pointWord, spotWord, inksWord, wordsOf}
+use Rattle.coprocessor.specs.Images.{countersOf, Field, _bytes_, laid, mapFields, fieldsBy, fieldsOf, imageOf, at, mapFrom, pointFrom, spotFrom, countersFrom, loaded, loads, saves, saved}
+use Rattle.coprocessor.specs.Held.{Held}
+use Rattle.coprocessor.proofs.DrawingLaws.{same-counters}
+use Rattle.numbers.proofs.BytePartLaws.{number-lt, number-split, le-part}
+use Rattle.numbers.proofs.SignedBytes.{residue-signed}
+
+pub loaded-valid : (b : List ℕ) → loads b ≡ true → validOf (loaded b) ≡ true
+unfolding loads
+loaded-valid b e = search and-r
+
+-- the fields of these widths, read one after another from this offset on
+unfoldable reads : List ℕ → ℕ → List ℕ → List Field
+reads b k [] = []
+reads b k (n ∷ ns) = (n bytes (at k n b)) ∷ reads b (k + n) ns
+
+-- 01, State image: mark to map index, four maps, and the registers
+unfoldable widths : List ℕ
+widths =
+    3 ∷ 2 ∷ 4 ∷ 1 ∷ 2 ∷ 2 ∷ 1 ∷ 1 ∷ 4 ∷ 2 ∷ 2 ∷ 1 ∷ 4 ∷ 2 ∷ 2 ∷ 1 ∷ 4 ∷ 2 ∷ 2 ∷ 1 ∷ 4 ∷ 2 ∷ 2 ∷ 1
+    ∷ 4 ∷ 4 ∷ 4 ∷ 4 ∷ 3 ∷ 4 ∷ 4 ∷ 4 ∷ 4 ∷ 4 ∷ 4 ∷ 4 ∷ 4 ∷ 4 ∷ 4 ∷ 4 ∷ []
+
+unfoldable total : List ℕ → ℕ
+total [] = 0
+total (n ∷ ns) = n + total ns
+
+module _ (b : List ℕ) (small : (i : ℕ) → getD b i 0 < 256) where
+  pub at-lt : (k n : ℕ) → at k n b < 256 ^ n
+  unfolding at
+  at-lt k n = number-lt k n b small
+
+  -- ---- what is laid is what was read
+
+  le-at : (k n : ℕ) → k + n ≤ length b → le n (at k n b) ≡ take n (drop k b)
+  unfolding at
+  le-at k n h = le-part k n b small h
+
+  laid-reads : (ns : List ℕ) (k : ℕ) → k + total ns ≡ length b → laid (reads b k ns) ≡ drop k b
+  unfolding laid reads total
+  laid-reads [] k e = sym (drop-of-length-le b {i = k} (omega arith))
+  laid-reads (n ∷ ns) k e =
+      rw (le-at k n (omega arith), laid-reads ns (k + n) (omega arith), ← drop-drop n k b) (take-append-drop n (drop k b))
+
+  at-split : (k n m : ℕ) → at k (n + m) b ≡ at k n b + 256 ^ n * at (k + n) m b
+  unfolding at
+  at-split k n m = number-split k n m b
+
+  signed-at : (k : ℕ) → residue (2 ^ 32) (toZ w32 (at k 4 b)) ≡ at k 4 b
+  signed-at k = residue-signed w32 (at k 4 b) (record { fits = at-lt k 4 })
+
+  half-at : (k : ℕ) → residue (2 ^ 16) (toZ w16 (at k 2 b)) ≡ at k 2 b
+  half-at k = residue-signed w16 (at k 2 b) (record { fits = at-lt k 2 })
+
+  point-at : (k : ℕ) → at k 2 b + 65536 * at (k + 2) 2 b ≡ at k 4 b
+  point-at k = sym (at-split k 2 2)
+
+  spot-at : (k : ℕ) → residue (2 ^ 16) (toZ w16 (at k 2 b)) + 65536 * residue (2 ^ 16) (toZ w16 (at (k + 2) 2 b)) ≡ at k 4 b
+  spot-at k = rw (half-at k, half-at (k + 2)) (point-at k)
+
+  inks-at : at 68 1 b + 256 * at 69 1 b + 65536 * at 70 1 b ≡ at 68 3 b
+  inks-at =
+      let low : at 68 3 b ≡ at 68 1 b + 256 * at 69 2 b = at-split 68 1 2 in
+      let high : at 69 2 b ≡ at 69 1 b + 256 * at 70 1 b = at-split 69 1 1 in
+      omega arith
+
+  -- ---- the record's image
+
+  module _ (e : loads b ≡ true) where
+    long : length b ≡ 115
+    unfolding loads
+    long = eqb-true (length b) 115 (search (and-l, and-r))
+
+    mark : 0x534758 ≡ at 0 3 b
+    unfolding loads
+    mark = sym (eqb-true (at 0 3 b) 0x534758 (search (and-l, and-r)))
+
+    version : 1 ≡ at 3 2 b
+    unfolding loads
+    version = sym (eqb-true (at 3 2 b) 1 (search (and-l, and-r)))
+
+    counters : countersOf (loaded b .drawing) ≡ countersFrom b
+    unfolding loads
+    counters = sym (same-counters (countersFrom b) (countersOf (loaded b .drawing)) (search (and-l, and-r)))
+
+    fields-read : fieldsOf (loaded b) ≡ reads b 0 widths
+    unfolding fieldsOf fieldsBy mapFields wordsOf mapAt loaded mapFrom pointFrom spotFrom countersFrom pointWord spotWord inksWord reads widths
+    fields-read = λ i.
+        (3 bytes (mark i)) ∷ (2 bytes (version i)) ∷ (4 bytes (at 5 4 b))
+        ∷ (1 bytes (counters i .state)) ∷ (2 bytes (counters i .done)) ∷ (2 bytes (counters i .gone)) ∷ (1 bytes (counters i .count))
+        ∷ (1 bytes (at 15 1 b))
+        ∷ mapFields (mapFrom 16 b) ++ mapFields (mapFrom 25 b) ++ mapFields (mapFrom 34 b) ++ mapFields (mapFrom 43 b)
+        ++ (4 bytes (signed-at 52 i)) ∷ (4 bytes (signed-at 56 i)) ∷ (4 bytes (signed-at 60 i)) ∷ (4 bytes (at 64 4 b))
+        ∷ (3 bytes (inks-at i))
+        ∷ (4 bytes (at 71 4 b)) ∷ (4 bytes (at 75 4 b)) ∷ (4 bytes (at 79 4 b)) ∷ (4 bytes (at 83 4 b)) ∷ (4 bytes (at 87 4 b))
+        ∷ (4 bytes (point-at 91 i))
+        ∷ (4 bytes (point-at 95 i)) ∷ (4 bytes (point-at 99 i)) ∷ (4 bytes (point-at 103 i)) ∷ (4 bytes (spot-at 107 i)) ∷ (4 bytes (at 111 4 b))
+        ∷ []
+
+    image-read : imageOf (loaded b) ≡ b
+    unfolding imageOf total widths
+    image-read = ap laid fields-read ∙ laid-reads widths 0 (sym long)
+
+pub image-loaded : (b : List ℕ) → loads b ≡ true → ((i : ℕ) → getD b i 0 < 256) → imageOf (loaded b) ≡ b
+image-loaded b e small = image-read b small e
+
+-- load, then save
+pub save-load : (b into : List ℕ) → loads b ≡ true → ((i : ℕ) → getD b i 0 < 256) → length into ≡ 115 → saved (loaded b) into ≡ b
+unfolding saved saves
+save-load b into e small long = rw (eq-eqb (length into) 115 long, loaded-valid b e) (image-loaded b e small)
+
+-- ---- what its types hold it to
+
+each-map : (P : Map → Type 0) (m a b c : Map) → P m → P a → P b → P c → P freshMap → (i : ℕ) → P (mapAt (m ∷ a ∷ b ∷ c ∷ []) i)
+unfolding mapAt
+each-map P m a b c pm pa pb pc none i = go (i % 4)
+  where
+    go : (k : ℕ) → P (getD (m ∷ a ∷ b ∷ c ∷ []) k freshMap)
+    go zero = pm
+    go (suc zero) = pa
+    go (suc (suc zero)) = pb
+    go (suc (suc (suc zero))) = pc
+    go (suc (suc (suc (suc k)))) = none
+
+pub held-loaded : (b : List ℕ) → ((i : ℕ) → getD b i 0 < 256) → Held (loaded b)
+unfolding loaded mapFrom
+held-loaded b small =
+    let lt : (k n : ℕ) → at k n b < 256 ^ n = at-lt b small in
+    record {
+      four = refl;
+      bases = each-map (λ (m : Map). m .base < 2 ^ 32) (mapFrom 16 b) (mapFrom 25 b) (mapFrom 34 b) (mapFrom 43 b) (lt 16 4) (lt 25 4) (lt 34 4) (lt 43 4) (lit< tt);
+      steps = lt 64 4;
+      foreground-mix = lt 68 1;
+      background-mix = lt 69 1;
+      foreground-colour = lt 83 4;
+      background-colour = lt 87 4;
+      compare-value = lt 71 4;
+      planes = lt 75 4;
+      carries = lt 79 4;
+      operations = lt 111 4;
+    }

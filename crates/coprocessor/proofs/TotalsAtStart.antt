@@ -1,0 +1,48 @@
+-- A write that starts a drawing leaves all of its positions, and a valid record has positions left exactly while a drawing is in hand: the counters of a start are 0, and counters that hold stand before the end.
+use mathlib.Core.Path.{_≡_, refl}
+use mathlib.Core.Bool.{Bool, true, false, true≢false}
+use mathlib.Core.Logic.{_↔_}
+use Prim.Native.Nat.{ℕ, _<_}
+use native.Mathlib.Omega.{arith}
+use Rattle.numbers.specs.declared.bytes.Write.{Write}
+use Rattle.parts.specs.declared.shapes.Point.{Point}
+use Rattle.parts.specs.declared.drawing.Drawing.{Drawing}
+use Rattle.parts.specs.declared.drawing.Drawing.the-variants.{Nothing, Line, Codes, Block}
+use Rattle.parts.specs.Refusals.{isAccepted}
+use Rattle.parts.specs.Drawings.{unfinished}
+use Rattle.rules.specs.Going.{countersHold}
+use Rattle.rules.specs.Totals.{leftOf}
+use Rattle.rules.proofs.Conjunctions.{and-l, and-r}
+use Rattle.rules.proofs.TotalLaws.{left-started, left-some, left-idle}
+use Rattle.coprocessor.specs.declared.Coprocessor.{Coprocessor}
+use Rattle.coprocessor.specs.Valid.{goesOn, validOf}
+use Rattle.coprocessor.specs.Writes.{merged, startsBy, started, settledBy, writeRefusal, writeAnswer}
+use Rattle.coprocessor.specs.Totals.{totalIn, leftIn}
+
+pub start-total : (w : Write) (c : Coprocessor) → isAccepted (writeRefusal w c) ≡ true → startsBy w (merged w c) ≡ true
+    → leftIn (writeAnswer w c .coprocessor) ≡ totalIn (writeAnswer w c .coprocessor)
+unfolding started settledBy writeAnswer
+start-total w c accepted starts =
+    rw (accepted, starts) (left-started (merged w c .operations) (merged w c .dimensions) (merged w c .steps) (w .length))
+
+-- ---- the drawing in hand
+
+pub left-in-hand : (c : Coprocessor) → validOf c ≡ true → unfinished (c .drawing) ≡ true → 0 < leftIn c
+unfolding goesOn validOf
+left-in-hand c valid hand =
+    let going : goesOn c ≡ true = search (valid, and-r) in
+    let counters : countersHold (c .operations) (c .dimensions) (c .steps) (c .drawing) ≡ true = search (rw hand at going, and-l) in
+    left-some (c .operations) (c .dimensions) (c .steps) (c .drawing) counters hand
+
+none-left : (dimensions : Point) (steps : ℕ) (drawing : Drawing) → unfinished drawing ≡ false → leftOf dimensions steps drawing ≡ 0
+none-left dimensions steps (Nothing stopped) idle = left-idle dimensions steps stopped
+none-left dimensions steps (Line done) idle = absurd (true≢false idle)
+none-left dimensions steps (Codes count code done) idle = absurd (true≢false idle)
+none-left dimensions steps (Block column row) idle = absurd (true≢false idle)
+
+pub left-none : (c : Coprocessor) → validOf c ≡ true → leftIn c ≡ 0 ↔ unfinished (c .drawing) ≡ false
+left-none c valid = (λ none. by none (unfinished (c .drawing)) refl, none-left (c .dimensions) (c .steps) (c .drawing))
+  where
+    by : leftIn c ≡ 0 → (t : Bool) → unfinished (c .drawing) ≡ t → t ≡ false
+    by none true hand = absurd (let some = left-in-hand c valid hand in omega arith)
+    by none false idle = refl

@@ -1,0 +1,44 @@
+-- `loads` is the test of an image of 115 bytes: mark, version, counters and validity, joined.
+use borrow.Author.Tests.{eq-eqb}
+use Rattle.coprocessor.specs.Images.{loads}
+use borrow.Author.Needs.{needs}
+use Rattle.coprocessor.proofs.loads.loads.Statement.{statement}
+use Rattle.coprocessor.proofs.loads.loads.Tie as tie
+
+counters-from-requires : tie.Need-counters-from-requires
+counters-from-requires c κs = search needs
+
+counters-of-requires : tie.Need-counters-of-requires
+counters-of-requires c κs = search needs
+
+are-same-requires : tie.Need-are-same-requires
+are-same-requires c κs = search needs
+
+is-marked-requires : tie.Need-is-marked-requires
+is-marked-requires c κs = search needs
+
+both-requires : tie.Need-both-requires
+both-requires c κs = search needs
+
+is-valid-requires : tie.Need-is-valid-requires
+is-valid-requires c κs = search needs
+
+both-requires-2 : tie.Need-both-requires-2
+both-requires-2 c κs = search needs
+
+returns : tie.Need-returns
+unfolding loads
+returns c = rw (eq-eqb _ _ (c .before .before .before .before .before .before .before .before .pre .0), c .both2 .ensures, c .before .is-valid .ensures, c .before .before .both .ensures, c .before .before .before .is-marked .ensures, c .before .before .before .before .are-same .ensures, c .before .before .before .before .before .counters-of .ensures, c .before .before .before .before .before .before .counters-from .ensures, c .before .before .before .before .before .before .before .before .pre .1)
+
+pub loads-spec : {M : Type 1} → statement M
+loads-spec =
+    tie.close
+    (tie.spec
+    counters-from-requires
+    counters-of-requires
+    are-same-requires
+    is-marked-requires
+    both-requires
+    is-valid-requires
+    both-requires-2
+    returns)

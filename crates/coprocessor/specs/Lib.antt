@@ -1,0 +1,9 @@
+pub mod Fresh
+pub mod Valid
+pub mod Reads
+pub mod Writes
+pub mod Runs
+pub mod Held
+pub mod Totals
+pub mod ReadBack
+pub mod Images

@@ -1,0 +1,86 @@
+-- A run: the drawing in hand goes on by an allowance of positions.
+use Prim.Native.Nat.{ℕ}
+use mathlib.Core.Bool.{Bool, not}
+use mathlib.Core.List.{List}
+use lib.ListN.{length}
+use lib.Dec.{eqb}
+use Rattle.numbers.specs.Choose.{choose}
+use Rattle.parts.specs.declared.refusals.Refusal.{Refusal}
+use Rattle.parts.specs.declared.refusals.Refusal.the-variants.{Accepted, Size, Image, Beyond}
+use Rattle.parts.specs.Refusals.{isAccepted}
+use Rattle.rules.specs.Operations.{sourceField, destinationField, patternField}
+use Rattle.rules.specs.Maps.{mapAt}
+use Rattle.moves.specs.declared.Setup.{Setup}
+use Rattle.moves.specs.declared.Pen.{Pen}
+use Rattle.moves.specs.Decoded.{courseOf, flowOf}
+use Rattle.runs.specs.Runs.{Run, begun, after}
+use Rattle.coprocessor.specs.declared.Coprocessor.{Coprocessor}
+use Rattle.coprocessor.specs.declared.Drawn.{Drawn}
+use Rattle.coprocessor.specs.Valid.{validOf}
+
+-- what the drawing does not change: 01, Registers, 7C: the fields choose the maps
+unfoldable pub setupOf : Coprocessor → Setup
+setupOf c =
+    record {
+      course = courseOf (c .operations);
+      flow = flowOf (c .operations);
+      destination = mapAt (c .maps) (destinationField (c .operations));
+      source = mapAt (c .maps) (sourceField (c .operations));
+      pattern = mapAt (c .maps) (patternField (c .operations));
+      mask = mapAt (c .maps) 0;
+      foreground = c .foreground;
+      background = c .background;
+      compare = c .compare;
+      planes = c .planes;
+      origin = c .origin;
+      dimensions = c .dimensions;
+      steps = c .steps;
+      k1 = c .terms .k1;
+      k2 = c .terms .k2;
+    }
+
+-- what it changes
+unfoldable pub penOf : Coprocessor → Pen
+penOf c =
+    record { source = c .source; pattern = c .pattern; destination = c .destination; e = c .terms .e; drawing = c .drawing }
+
+-- the record with what the drawing changed
+unfoldable pub withPen : Coprocessor → Pen → Coprocessor
+withPen c pen =
+    record {
+      size = c .size;
+      index = c .index;
+      maps = c .maps;
+      terms = record { e = pen .e; k1 = c .terms .k1; k2 = c .terms .k2 };
+      steps = c .steps;
+      foreground = c .foreground;
+      background = c .background;
+      compare = c .compare;
+      planes = c .planes;
+      carries = c .carries;
+      dimensions = c .dimensions;
+      origin = c .origin;
+      source = pen .source;
+      pattern = pen .pattern;
+      destination = pen .destination;
+      operations = c .operations;
+      drawing = pen .drawing;
+    }
+
+-- the run of n positions, or as many as there are
+unfoldable pub ranOf : Coprocessor → List ℕ → ℕ → Run
+ranOf c memory n = after (setupOf c) n (begun (penOf c) memory)
+
+-- 01, Numbers a call answers with: 9 for another length than the state's, then 10
+unfoldable pub runRefusal : Coprocessor → List ℕ → Refusal
+runRefusal c memory = choose (not (eqb (length memory) (c .size))) Size (choose (not (validOf c)) Image Accepted)
+
+-- 01, Numbers a call answers with: 9 or 10 in a run does 0 positions; 11 leaves what earlier positions did and makes the drawing idle
+unfoldable pub runAnswer : Coprocessor → List ℕ → ℕ → Drawn
+runAnswer c memory n =
+    choose (isAccepted (runRefusal c memory))
+    (record { refusal = choose (ranOf c memory n .beyond) Beyond Accepted; done = ranOf c memory n .done; coprocessor = withPen c (ranOf c memory n .pen) })
+    (record { refusal = runRefusal c memory; done = 0; coprocessor = c })
+
+unfoldable pub runMemory : Coprocessor → List ℕ → ℕ → List ℕ
+runMemory c memory n = choose (isAccepted (runRefusal c memory)) (ranOf c memory n .memory) memory

@@ -1,0 +1,158 @@
+ghost use mathlib.Core.Path.{_≡_};
+ghost use Rattle.coprocessor.specs.Runs.{setupOf, penOf, withPen, runRefusal, runAnswer, runMemory};
+use crate::Coprocessor;
+use crate::Drawn;
+use moves::Pen;
+use moves::Setup;
+use moves::decoded::course_of;
+use moves::decoded::flow_of;
+use parts::refusals::Refusal;
+use parts::refusals::accepts;
+use parts::shapes::Terms;
+use rules::maps::map_at;
+use rules::operations::destination_field;
+use rules::operations::pattern_field;
+use rules::operations::source_field;
+use runs::run;
+
+impl Coprocessor {
+    // What a drawing does not change, decoded once.
+    fn setup(self) -> Setup
+        ensures { λ r. ⌜ r ≡ setupOf self ⌝ }
+    {
+        let operations = self.operations;
+        let maps = self.maps;
+        let course = course_of(operations);
+        let flow = flow_of(operations);
+        let destination = map_at(maps, destination_field(operations));
+        let source = map_at(maps, source_field(operations));
+        let pattern = map_at(maps, pattern_field(operations));
+        let mask = maps[0];
+        let foreground = self.foreground;
+        let background = self.background;
+        let compare = self.compare;
+        let origin = self.origin;
+        let dimensions = self.dimensions;
+        let terms = self.terms;
+        Setup {
+            course,
+            flow,
+            destination,
+            source,
+            pattern,
+            mask,
+            foreground,
+            background,
+            compare,
+            planes: self.planes,
+            origin,
+            dimensions,
+            steps: self.steps,
+            k1: terms.k1,
+            k2: terms.k2,
+        }
+    }
+
+    // What a drawing changes beside memory.
+    fn pen(self) -> Pen
+        ensures { λ r. ⌜ r ≡ penOf self ⌝ }
+    {
+        let source = self.source;
+        let pattern = self.pattern;
+        let destination = self.destination;
+        let terms = self.terms;
+        let drawing = self.drawing;
+        Pen {
+            source,
+            pattern,
+            destination,
+            e: terms.e,
+            drawing,
+        }
+    }
+
+    // The record with what a drawing changed.
+    fn with_pen(self, pen: Pen) -> Coprocessor
+        ensures { λ r. ⌜ r ≡ withPen self pen ⌝ }
+    {
+        let maps = self.maps;
+        let old = self.terms;
+        let terms = Terms {
+            e: pen.e,
+            k1: old.k1,
+            k2: old.k2,
+        };
+        let foreground = self.foreground;
+        let background = self.background;
+        let compare = self.compare;
+        let dimensions = self.dimensions;
+        let origin = self.origin;
+        let source = pen.source;
+        let pattern = pen.pattern;
+        let destination = pen.destination;
+        let drawing = pen.drawing;
+        Coprocessor {
+            size: self.size,
+            index: self.index,
+            maps,
+            terms,
+            steps: self.steps,
+            foreground,
+            background,
+            compare,
+            planes: self.planes,
+            carries: self.carries,
+            dimensions,
+            origin,
+            source,
+            pattern,
+            destination,
+            operations: self.operations,
+            drawing,
+        }
+    }
+
+    // The refusal of a run before its first position, if any: 9, 10.
+    fn run_refusal(self, memory: &[u8]) -> Refusal
+        ensures { λ r. ⌜ r ≡ runRefusal self (now (memory .entry)) ⌝ }
+    {
+        if memory.len() != self.size as usize {
+            return Refusal::Size;
+        }
+        if !self.is_valid() {
+            return Refusal::Image;
+        }
+        Refusal::Accepted
+    }
+
+    // Does the next positions of the drawing in hand, at most as many as the allowance; 9 or 10 does none, and 11 keeps
+    // those before it and ends the drawing.
+    pub fn run(self, memory: &mut [u8], allowance: u32) -> Drawn
+        ensures { λ r. ⌜ (r ≡ runAnswer self (now (memory .entry)) allowance) × (now (memory .exit) ≡ runMemory self (now (memory .entry)) allowance) ⌝ }
+    {
+        let refusal = self.run_refusal(memory);
+        if !accepts(refusal) {
+            return Drawn {
+                refusal,
+                done: 0,
+                coprocessor: self,
+            };
+        }
+        let ran = run(self.setup(), self.pen(), memory, allowance);
+        let pen = ran.pen;
+        let coprocessor = self.with_pen(pen);
+        if ran.beyond {
+            Drawn {
+                refusal: Refusal::Beyond,
+                done: ran.done,
+                coprocessor,
+            }
+        } else {
+            Drawn {
+                refusal: Refusal::Accepted,
+                done: ran.done,
+                coprocessor,
+            }
+        }
+    }
+}

@@ -1,0 +1,10 @@
+pub mod Binary
+pub mod Bitwise
+pub mod Codes
+pub mod LogicalMixes
+pub mod Gathered
+pub mod Building
+pub mod ArithmeticMixes
+pub mod Mixed
+pub mod Order
+pub mod Examples

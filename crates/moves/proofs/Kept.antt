@@ -1,0 +1,124 @@
+-- What every move keeps: what a step, a row's end and a passage keep, each move keeps; so used pointers stay inside their maps, the destination on its circle, and E on its own.
+use mathlib.Core.Path.{_≡_, refl}
+use mathlib.Core.Bool.{Bool, true, false, not, _&&_, _||_}
+use mathlib.Core.Logic.{_⊎_, ⊎-elim, inl, inr}
+use Prim.Native.Nat.{ℕ, _%_}
+use lib.Dec.{lit<}
+use lib.IntN.{ℤ, pos, _+ℤ_}
+use lib.Signed.{ltZ}
+use borrow.Author.Tests.{leb-true, le-leb}
+use Rattle.numbers.specs.Choose.{choose}
+use Rattle.numbers.specs.Circles.{circle}
+use Rattle.numbers.proofs.CircleLaws.{circle-circle}
+use Rattle.pixels.specs.declared.Map.{Map}
+use Rattle.parts.specs.declared.shapes.Point.{Point}
+use Rattle.parts.specs.declared.shapes.Spot.{Spot}
+use Rattle.parts.specs.declared.drawing.Drawing.{Drawing}
+use Rattle.parts.specs.declared.drawing.Drawing.the-variants.{Nothing, Line, Codes, Block}
+use Rattle.rules.specs.Maps.{isInside}
+use Rattle.rules.specs.Starts.{codeAt}
+use Rattle.moves.specs.declared.Turn.{Turn}
+use Rattle.moves.specs.declared.Step.{Step}
+use Rattle.moves.specs.declared.Setup.{Setup}
+use Rattle.moves.specs.declared.Pen.{Pen}
+use Rattle.moves.specs.Turns.{turnedBy, pointStepped, spotStepped}
+use Rattle.moves.specs.Moves.{penStepped, penWith, penGone, lineError, lineMoved, codesMoved, columnPassed, rowPoint, rowSpot, rowPassed, blockMoved, movedBy, moved}
+use Rattle.moves.proofs.Choices.{by-test, by-lt, and-left, and-right, and-both}
+use Rattle.moves.proofs.TurnLaws.{turned-in}
+use Rattle.moves.proofs.CircledLaws.{OnCircle, circled-on}
+
+-- ---- what each kind of move keeps
+
+module _ (s : Setup) (P : Pen → Type 0)
+    (step : (from to : Step) (e : ℤ) (d : Drawing) (pen : Pen) → (e ≡ pen .e) ⊎ (e ≡ lineError s (pen .e)) → P pen → P (penStepped s from to e d pen))
+    (row : (d : Drawing) (pen : Pen) → P pen → P (rowPassed s d pen))
+    (pass : (d : Drawing) (pen : Pen) → P pen → P (penWith d pen)) where
+  pub kept : (pen : Pen) → P pen → P (moved s pen)
+  unfolding moved movedBy lineMoved codesMoved blockMoved penGone columnPassed
+  kept pen h = by (pen .drawing)
+    where
+      by : (d : Drawing) → P (movedBy s d pen)
+      by (Nothing stopped) = h
+      by (Line done) = by-lt P done (s .dimensions .x) (λ less. step _ _ _ _ pen (inr refl) h) (λ more. pass _ pen h)
+      by (Codes count code done) =
+          by-lt P done (codeAt (s .steps) count code % 16) (λ less. step _ _ _ _ pen (inl refl) h) (λ more. pass _ pen h)
+      by (Block column across) = by-lt P column (s .dimensions .x) (λ less. step _ _ _ _ pen (inl refl) h) (λ more. row _ pen h)
+
+-- ---- pointers inside their maps
+
+pub turned-inside : (map : Map) (t u : Turn) (j k : ℕ) (p : Point) → isInside map p ≡ true
+    → isInside map (record { x = turnedBy t j (map .width) (p .x); y = turnedBy u k (map .height) (p .y) }) ≡ true
+unfolding isInside
+turned-inside map t u j k p h =
+    let across = leb-true (p .x) (map .width) (search and-left) in
+    let down = leb-true (p .y) (map .height) (search and-right) in
+    let right = le-leb (turnedBy t j (map .width) (p .x)) (map .width) (turned-in (map .width) t j (p .x) across) in
+    let below = le-leb (turnedBy u k (map .height) (p .y)) (map .height) (turned-in (map .height) u k (p .y) down) in
+    search and-both
+
+-- a used pointer turns, and an unused one stays
+used-inside : (used : Bool) (map : Map) (t u : Turn) (j k : ℕ) (p : Point) → isInside map p ≡ true
+    → isInside map (choose used (record { x = turnedBy t j (map .width) (p .x); y = turnedBy u k (map .height) (p .y) }) p) ≡ true
+used-inside used map t u j k p h =
+    by-test (λ (q : Point). isInside map q ≡ true) used (λ yes. turned-inside map t u j k p h) (λ no. h)
+
+pub source-inside : (s : Setup) (pen : Pen) → isInside (s .source) (pen .source) ≡ true
+    → isInside (s .source) (moved s pen .source) ≡ true
+unfolding penStepped penWith rowPassed pointStepped rowPoint
+source-inside s =
+    kept s (λ pen. isInside (s .source) (pen .source) ≡ true)
+    (λ from to e d pen known. used-inside (s .flow .source) (s .source) _ _ _ _ (pen .source))
+    (λ d pen. used-inside (s .flow .source) (s .source) _ _ _ _ (pen .source))
+    (λ d pen h. h)
+
+pub pattern-inside : (s : Setup) (pen : Pen) → isInside (s .pattern) (pen .pattern) ≡ true
+    → isInside (s .pattern) (moved s pen .pattern) ≡ true
+unfolding penStepped penWith rowPassed pointStepped rowPoint
+pattern-inside s =
+    kept s (λ pen. isInside (s .pattern) (pen .pattern) ≡ true)
+    (λ from to e d pen known. used-inside (s .flow .pattern) (s .pattern) _ _ _ _ (pen .pattern))
+    (λ d pen. used-inside (s .flow .pattern) (s .pattern) _ _ _ _ (pen .pattern))
+    (λ d pen h. h)
+
+-- 01, State image: used source and pattern pointers lie in their maps
+abbrev pub pointersInside : Setup → Pen → Bool
+pointersInside s pen =
+    (not (s .flow .source) || isInside (s .source) (pen .source))
+    && (not (s .flow .pattern) || isInside (s .pattern) (pen .pattern))
+
+where-used : (used : Bool) (map : Map) (p q : Point) → (isInside map p ≡ true → isInside map q ≡ true)
+    → (not used || isInside map p) ≡ true → (not used || isInside map q) ≡ true
+where-used true map p q keeps h = keeps h
+where-used false map p q keeps h = refl
+
+pub pointers-moved : (s : Setup) (pen : Pen) → pointersInside s pen ≡ true → pointersInside s (moved s pen) ≡ true
+pointers-moved s pen h =
+    let source = where-used (s .flow .source) (s .source) (pen .source) (moved s pen .source) (source-inside s pen) (search and-left) in
+    let pattern = where-used (s .flow .pattern) (s .pattern) (pen .pattern) (moved s pen .pattern) (pattern-inside s pen) (search and-right) in
+    search and-both
+
+-- ---- the destination on its circle, and E on its own
+
+-- both of the destination's pointers lie on their circle
+abbrev pub SpotOn : Spot → Type 0
+SpotOn p = OnCircle (p .x) × OnCircle (p .y)
+
+pub destination-moved : (s : Setup) (pen : Pen) → SpotOn (pen .destination) → SpotOn (moved s pen .destination)
+unfolding penStepped penWith rowPassed spotStepped rowSpot
+destination-moved s =
+    kept s (λ pen. SpotOn (pen .destination))
+    (λ from to e d pen known on. (circled-on _ _ _ (on .0), circled-on _ _ _ (on .1)))
+    (λ d pen on. (circled-on _ _ _ (on .0), circled-on _ _ _ (on .1)))
+    (λ d pen on. on)
+
+pub line-error-on : (s : Setup) (e : ℤ) → circle 8192 16384 (lineError s e) ≡ lineError s e
+unfolding lineError
+line-error-on s e = circle-circle 8192 16384 (lit< tt) (e +ℤ choose (ltZ e (pos 0)) (s .k1) (s .k2))
+
+pub error-moved : (s : Setup) (pen : Pen) → circle 8192 16384 (pen .e) ≡ pen .e → circle 8192 16384 (moved s pen .e) ≡ moved s pen .e
+unfolding penStepped penWith rowPassed
+error-moved s =
+    kept s (λ pen. circle 8192 16384 (pen .e) ≡ pen .e)
+    (λ from to e d pen known on. ⊎-elim (λ same. rw same on) (λ added. rw added (line-error-on s (pen .e))) known)
+    (λ d pen on. on)
+    (λ d pen on. on)

@@ -1,0 +1,47 @@
+-- `circle_by` is the definition at each of the three turns, read off the machine's signed numbers.
+use mir.Syntax.{w16}
+use mir.ValLaws.{toZ-ofZ}
+use borrow.Author.Needs.{needs}
+use Rattle.moves.specs.Turns.{circledBy}
+use Rattle.moves.proofs.turns.circle_by.Statement.{statement}
+use Rattle.moves.proofs.turns.circle_by.Tie as tie
+
+enum-told : tie.Need-enum-told
+enum-told c = search needs
+
+enum-told-2 : tie.Need-enum-told-2
+enum-told-2 c = search needs
+
+destination-forth-requires : tie.Need-destination-forth-requires
+destination-forth-requires c κs = search needs
+
+enum-told-3 : tie.Need-enum-told-3
+enum-told-3 c = search needs
+
+destination-back-requires : tie.Need-destination-back-requires
+destination-back-requires c κs = search needs
+
+returns : tie.Need-returns
+unfolding circledBy
+returns c = rw (toZ-ofZ w16 (c .before .before .args .z) (c .before .before .fits .z), c .enum-told .given .1)
+
+returns-2 : tie.Need-returns-2
+unfolding circledBy
+returns-2 c = rw (c .before .enum-told2 .given .1, toZ-ofZ w16 (c .destination-forth .result) (record { sfits = c .destination-forth .ok }), c .destination-forth .ensures, toZ-ofZ w16 (c .before .before .before .args .z) (c .before .before .before .fits .z))
+
+returns-3 : tie.Need-returns-3
+unfolding circledBy
+returns-3 c = rw (c .before .enum-told3 .given .1, toZ-ofZ w16 (c .destination-back .result) (record { sfits = c .destination-back .ok }), c .destination-back .ensures, toZ-ofZ w16 (c .before .before .before .args .z) (c .before .before .before .fits .z))
+
+pub circle-by-spec : {M : Type 1} → statement M
+circle-by-spec =
+    tie.close
+    (tie.spec
+    enum-told
+    enum-told-2
+    destination-forth-requires
+    enum-told-3
+    destination-back-requires
+    returns
+    returns-2
+    returns-3)

@@ -1,0 +1,26 @@
+-- `block_way` leads to the definition's pen: within the row by a step, at its end over the row's end.
+use native.Mathlib.Omega.{arith}
+use mir.Syntax.{w32}
+use mir.ValLaws.{toZ-ofZ}
+use borrow.Author.Tests.{lt-ltb, le-ltb}
+use borrow.Author.Needs.{needs}
+use Rattle.moves.specs.Moves.{columnPassed, blockMoved, gone}
+use Rattle.moves.proofs.ways.block_way.Statement.{statement}
+use Rattle.moves.proofs.ways.block_way.Tie as tie
+
+add-t11 : tie.Need-add-t11
+add-t11 c = omega (arith, c .if1 .taken, c .before .struct-known .given)
+
+row-after-requires : tie.Need-row-after-requires
+row-after-requires c κs = search needs
+
+returns : tie.Need-returns
+unfolding gone columnPassed blockMoved
+returns c = rw (lt-ltb _ _ (c .before .if1 .taken), toZ-ofZ w32 (c .before .before .before .before .args .pen .e) (search needs))
+
+returns-2 : tie.Need-returns-2
+unfolding gone blockMoved
+returns-2 c = rw (le-ltb _ _ (c .before .if1 .left), c .row-after .ensures)
+
+pub block-way-spec : {M : Type 1} → statement M
+block-way-spec = tie.close (tie.spec add-t11 row-after-requires returns returns-2)

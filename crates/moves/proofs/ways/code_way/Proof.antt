@@ -1,0 +1,47 @@
+-- `code_way` leads to the definition's pen: below the code's last position by a step, at it to the next code.
+use mir.Syntax.{w32}
+use mir.ValLaws.{toZ-ofZ}
+use borrow.Author.Tests.{lt-ltb, le-ltb}
+use borrow.Author.Needs.{needs}
+use Rattle.moves.specs.Moves.{penGone, codesMoved, gone}
+use Rattle.moves.proofs.ways.code_way.Statement.{statement}
+use Rattle.moves.proofs.ways.code_way.Tie as tie
+
+code-at-requires : tie.Need-code-at-requires
+code-at-requires c κs = search needs
+
+cast-if1 : tie.Need-cast-if1
+cast-if1 c = search needs
+
+code-step-requires : tie.Need-code-step-requires
+code-step-requires c κs = search needs
+
+add-t13 : tie.Need-add-t13
+add-t13 c = search needs
+
+way-along-requires : tie.Need-way-along-requires
+way-along-requires c κs = search needs
+
+pass-code-requires : tie.Need-pass-code-requires
+pass-code-requires c κs = search needs
+
+returns : tie.Need-returns
+unfolding gone penGone codesMoved
+returns c = rw (← c .before .before .before .before .code-at .ensures, lt-ltb _ _ (c .before .before .before .if1 .taken), c .way-along .ensures, c .before .before .code-step .ensures, toZ-ofZ w32 (c .before .before .before .before .before .before .args .pen .e) (search needs))
+
+returns-2 : tie.Need-returns-2
+unfolding gone codesMoved
+returns-2 c = rw (← c .before .before .code-at .ensures, le-ltb _ _ (c .before .if1 .left), c .pass-code .ensures)
+
+pub code-way-spec : {M : Type 1} → statement M
+code-way-spec =
+    tie.close
+    (tie.spec
+    code-at-requires
+    cast-if1
+    code-step-requires
+    add-t13
+    way-along-requires
+    pass-code-requires
+    returns
+    returns-2)

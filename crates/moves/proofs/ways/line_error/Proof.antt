@@ -1,0 +1,34 @@
+-- `line_error` is the reduced sum with the term that E's sign chooses.
+use mir.Syntax.{w32}
+use mir.ValLaws.{toZ-ofZ}
+use borrow.Author.Needs.{needs}
+use Rattle.moves.specs.Moves.{lineError}
+use Rattle.moves.proofs.ways.line_error.Statement.{statement}
+use Rattle.moves.proofs.ways.line_error.Tie as tie
+
+term-sum-requires : tie.Need-term-sum-requires
+term-sum-requires c κs = search needs
+
+term-sum-requires-2 : tie.Need-term-sum-requires-2
+term-sum-requires-2 c κs = search needs
+
+returns : tie.Need-returns
+unfolding lineError
+returns c =
+    let a = c .before .before .before .args in
+    let e = toZ-ofZ w32 (a .e) (c .before .before .before .fits .e) in
+    let k1 = toZ-ofZ w32 (a .setup .k1) (search (needs, c .before .struct-told .given .1 .1 .1 .1 .1 .1 .1 .1 .1 .1 .1 .1 .1)) in
+    let sum = toZ-ofZ w32 (c .term-sum .result) (record { sfits = c .term-sum .ok }) in
+    rw (rw e at (c .before .before .if1 .taken), sum, c .term-sum .ensures, e, k1)
+
+returns-2 : tie.Need-returns-2
+unfolding lineError
+returns-2 c =
+    let a = c .before .before .before .args in
+    let e = toZ-ofZ w32 (a .e) (c .before .before .before .fits .e) in
+    let k2 = toZ-ofZ w32 (a .setup .k2) (search (needs, c .before .struct-told2 .given .1 .1 .1 .1 .1 .1 .1 .1 .1 .1 .1 .1 .1 .1)) in
+    let sum = toZ-ofZ w32 (c .term-sum2 .result) (record { sfits = c .term-sum2 .ok }) in
+    rw (rw e at (c .before .before .if1 .left), sum, c .term-sum2 .ensures, e, k2)
+
+pub line-error-spec : {M : Type 1} → statement M
+line-error-spec = tie.close (tie.spec term-sum-requires term-sum-requires-2 returns returns-2)

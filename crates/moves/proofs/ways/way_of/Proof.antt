@@ -1,0 +1,65 @@
+-- `way_of` leads to the definition's pen at each kind of drawing: what the match finds in hand is what the pen moves by.
+use mathlib.Core.Path.{_≡_, _∙_, sym, ap}
+use borrow.Author.Needs.{needs}
+use Rattle.parts.specs.declared.drawing.Drawing.{Drawing}
+use Rattle.moves.specs.Moves.{penWith, movedBy, moved, gone}
+use Rattle.moves.proofs.ways.way_of.Statement.{statement}
+use Rattle.moves.proofs.ways.way_of.Tie as tie
+
+-- the pen moves by what its drawing is known to be
+known : (c : tie.Start) {d : Drawing} → c .args .pen .drawing ≡ d → movedBy (c .args .setup) d (c .args .pen) ≡ moved (c .args .setup) (c .args .pen)
+unfolding moved
+known c e = ap (λ d. movedBy (c .args .setup) d (c .args .pen)) (sym e)
+
+enum-told : tie.Need-enum-told
+enum-told c = search needs
+
+enum-known-drawing : tie.Need-enum-known-drawing
+enum-known-drawing c = search needs
+
+line-way-requires : tie.Need-line-way-requires
+line-way-requires c κs = search needs
+
+enum-known-drawing-2 : tie.Need-enum-known-drawing-2
+enum-known-drawing-2 c = search needs
+
+code-way-requires : tie.Need-code-way-requires
+code-way-requires c κs = search needs
+
+enum-known-drawing-3 : tie.Need-enum-known-drawing-3
+enum-known-drawing-3 c = search needs
+
+block-way-requires : tie.Need-block-way-requires
+block-way-requires c κs = search needs
+
+returns : tie.Need-returns
+unfolding gone penWith movedBy
+returns c = known (c .before .before) (c .enum-told .given .1)
+
+returns-2 : tie.Need-returns-2
+unfolding movedBy
+returns-2 c = c .line-way .ensures ∙ known (c .before .before .before .before) (c .before .before .drawing .given .1)
+
+returns-3 : tie.Need-returns-3
+unfolding movedBy
+returns-3 c = c .code-way .ensures ∙ known (c .before .before .before .before) (c .before .before .drawing2 .given .1)
+
+returns-4 : tie.Need-returns-4
+unfolding movedBy
+returns-4 c = c .block-way .ensures ∙ known (c .before .before .before .before) (c .before .before .drawing3 .given .1)
+
+pub way-of-spec : {M : Type 1} → statement M
+way-of-spec =
+    tie.close
+    (tie.spec
+    enum-told
+    enum-known-drawing
+    line-way-requires
+    enum-known-drawing-2
+    code-way-requires
+    enum-known-drawing-3
+    block-way-requires
+    returns
+    returns-2
+    returns-3
+    returns-4)

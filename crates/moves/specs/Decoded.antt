@@ -1,0 +1,38 @@
+-- What the pixel operations say of a drawing's course and flow, decoded once.
+use Prim.Native.Nat.{ℕ, _/_, _%_}
+use mathlib.Core.Bool.{_||_}
+use lib.Dec.{eqb}
+use Rattle.numbers.specs.Choose.{choose}
+use Rattle.rules.specs.Operations.{backgroundSource, foregroundSource, functionOf, patternField, maskMode, drawingMode, octantOf, usesSource, usesPattern}
+use Rattle.moves.specs.declared.Turn.{Turn}
+use Rattle.moves.specs.declared.Turn.the-variants.{Forth, Back}
+use Rattle.moves.specs.declared.Course.{Course}
+use Rattle.moves.specs.declared.Flow.{Flow}
+
+-- a sign bit: 1 is negative
+unfoldable pub signOf : ℕ → Turn
+signOf bit = choose (eqb bit 1) Back Forth
+
+-- 01, The functions: octant bit 2 is negative X, bit 1 negative Y, bit 0 Y major; 003: functions 2 and 3 read, function 9 inverts
+unfoldable pub courseOf : ℕ → Course
+courseOf operations =
+    record {
+      x = signOf (octantOf operations / 4 % 2);
+      y = signOf (octantOf operations / 2 % 2);
+      steep = eqb (octantOf operations % 2) 1;
+      read = eqb (functionOf operations) 2 || eqb (functionOf operations) 3;
+      inverts = eqb (functionOf operations) 9;
+    }
+
+-- 01, One position: pattern code 9 derives the pattern from the source; a source field of 10 takes the source pixel for the colour
+unfoldable pub flowOf : ℕ → Flow
+flowOf operations =
+    record {
+      source = usesSource operations;
+      pattern = usesPattern operations;
+      derived = eqb (patternField operations) 9;
+      foreground = eqb (foregroundSource operations) 2;
+      background = eqb (backgroundSource operations) 2;
+      mask = maskMode operations;
+      nulls = drawingMode operations;
+    }

@@ -1,0 +1,4 @@
+pub mod Turns
+pub mod Decoded
+pub mod Steps
+pub mod Moves

@@ -1,0 +1,132 @@
+-- The move to the next position, the end of a row, and the passage to the next code or to a stop.
+use Prim.Native.Nat.{ℕ, _+_, _%_}
+use mathlib.Core.Bool.{true, false}
+use lib.Dec.{ltb, eqb}
+use lib.IntN.{ℤ, pos, _+ℤ_}
+use lib.Signed.{ltZ}
+use Rattle.numbers.specs.Choose.{choose}
+use Rattle.numbers.specs.Circles.{circle}
+use Rattle.pixels.specs.declared.Map.{Map}
+use Rattle.parts.specs.declared.shapes.Point.{Point}
+use Rattle.parts.specs.declared.shapes.Spot.{Spot}
+use Rattle.parts.specs.declared.drawing.Drawing.{Drawing}
+use Rattle.parts.specs.declared.drawing.Drawing.the-variants.{Nothing, Line, Codes, Block}
+use Rattle.rules.specs.Starts.{codeAt}
+use Rattle.moves.specs.declared.Turn.the-variants.{Stay, Forth}
+use Rattle.moves.specs.declared.Step.{Step}
+use Rattle.moves.specs.declared.Course.{Course}
+use Rattle.moves.specs.declared.Way.{Way}
+use Rattle.moves.specs.declared.Way.the-variants.{Along, Row, Here}
+use Rattle.moves.specs.declared.Setup.{Setup}
+use Rattle.moves.specs.declared.Pen.{Pen}
+use Rattle.moves.specs.Turns.{opposite, turnedBy, circledBy, pointStepped, spotStepped}
+use Rattle.moves.specs.Steps.{lineStep, codeStep}
+
+-- 01, The functions: X by +1
+abbrev pub right : Step
+right = record { x = Forth; y = Stay }
+
+-- docs/DIFFERENCES.md, D3: at a step of a line or code, read forms move source and pattern by the step and destination X by +1; write forms the reverse
+unfoldable pub sourceBy : Course → Step → Step
+sourceBy course step = choose (course .read) step right
+
+unfoldable pub destinationBy : Course → Step → Step
+destinationBy course step = choose (course .read) right step
+
+-- 01, Maps and pointers: the pen with its used pointers stepped; unused ones stay
+unfoldable pub penStepped : Setup → Step → Step → ℤ → Drawing → Pen → Pen
+penStepped s bySource byDestination e drawing pen =
+    record {
+      source = choose (s .flow .source) (pointStepped (s .source) bySource (pen .source)) (pen .source);
+      pattern = choose (s .flow .pattern) (pointStepped (s .pattern) bySource (pen .pattern)) (pen .pattern);
+      destination = spotStepped byDestination (pen .destination);
+      e = e;
+      drawing = drawing;
+    }
+
+-- the pen with another drawing in hand, its pointers and E as they are
+unfoldable pub penWith : Drawing → Pen → Pen
+penWith drawing pen =
+    record { source = pen .source; pattern = pen .pattern; destination = pen .destination; e = pen .e; drawing = drawing }
+
+-- 01, The functions: the pen after one step of a line or code
+unfoldable pub penGone : Setup → Step → ℤ → Drawing → Pen → Pen
+penGone s step e drawing pen = penStepped s (sourceBy (s .course) step) (destinationBy (s .course) step) e drawing pen
+
+-- 01, The functions, Line: E below 0 adds K1, otherwise K2; E is reduced as in a write
+unfoldable pub lineError : Setup → ℤ → ℤ
+lineError s e = circle 8192 16384 (e +ℤ choose (ltZ e (pos 0)) (s .k1) (s .k2))
+
+-- 01, The functions, Line: no step follows the last position
+unfoldable pub lineMoved : Setup → ℕ → Pen → Pen
+lineMoved s done pen =
+    choose (ltb done (s .dimensions .x))
+    (penGone s (lineStep (s .course) (pen .e)) (lineError s (pen .e)) (Line (done + 1)) pen)
+    (penWith (Nothing false) pen)
+
+-- 01, The functions, Codes: after a code's last position comes the next code, a stop at 00, or the end of the write's codes
+unfoldable pub codePassed : ℕ → ℕ → ℕ → Drawing
+codePassed steps count code =
+    choose (ltb (code + 1) count)
+    (choose (eqb (codeAt steps count (code + 1)) 0) (Nothing true) (Codes count (code + 1) 0))
+    (Nothing false)
+
+-- 01, The functions, Codes: n moves in the code's direction; no pointer moves between two codes
+unfoldable pub codesMoved : Setup → ℕ → ℕ → ℕ → Pen → Pen
+codesMoved s count code done pen =
+    choose (ltb done (codeAt (s .steps) count code % 16))
+    (penGone s (codeStep (codeAt (s .steps) count code)) (pen .e) (Codes count code (done + 1)) pen)
+    (penWith (codePassed (s .steps) count code) pen)
+
+-- 01, The functions, PxBlt: within a row X steps by the octant's sign, of all three pointers
+unfoldable pub columnPassed : Setup → Drawing → Pen → Pen
+columnPassed s drawing pen =
+    penStepped s (record { x = s .course .x; y = Stay }) (record { x = s .course .x; y = Stay }) (pen .e) drawing pen
+
+-- 01, The functions, PxBlt: at a row's end X returns to the row's first and Y steps
+unfoldable pub rowPoint : Setup → Map → Point → Point
+rowPoint s map p =
+    record {
+      x = turnedBy (opposite (s .course .x)) (s .dimensions .x) (map .width) (p .x);
+      y = turnedBy (s .course .y) 1 (map .height) (p .y);
+    }
+
+-- docs/DIFFERENCES.md, D4: inverting, the destination's Y goes the other way
+unfoldable pub rowSpot : Setup → Spot → Spot
+rowSpot s p =
+    record {
+      x = circledBy (opposite (s .course .x)) (s .dimensions .x) (p .x);
+      y = circledBy (choose (s .course .inverts) (opposite (s .course .y)) (s .course .y)) 1 (p .y);
+    }
+
+unfoldable pub rowPassed : Setup → Drawing → Pen → Pen
+rowPassed s drawing pen =
+    record {
+      source = choose (s .flow .source) (rowPoint s (s .source) (pen .source)) (pen .source);
+      pattern = choose (s .flow .pattern) (rowPoint s (s .pattern) (pen .pattern)) (pen .pattern);
+      destination = rowSpot s (pen .destination);
+      e = pen .e;
+      drawing = drawing;
+    }
+
+-- 01, The functions, PxBlt: positions by rows; at each row's end X returns and Y steps, after the last too
+unfoldable pub blockMoved : Setup → ℕ → ℕ → Pen → Pen
+blockMoved s column row pen =
+    choose (ltb column (s .dimensions .x)) (columnPassed s (Block (column + 1) row) pen)
+    (rowPassed s (choose (ltb row (s .dimensions .y)) (Block 0 (row + 1)) (Nothing false)) pen)
+
+-- 01, The functions: the pen after this position
+unfoldable pub movedBy : Setup → Drawing → Pen → Pen
+movedBy s (Nothing stopped) pen = pen
+movedBy s (Line done) pen = lineMoved s done pen
+movedBy s (Codes count code done) pen = codesMoved s count code done pen
+movedBy s (Block column row) pen = blockMoved s column row pen
+
+unfoldable pub moved : Setup → Pen → Pen
+moved s pen = movedBy s (pen .drawing) pen
+
+-- the pen come this way: its used pointers stepped, past a row's end, or as it is with another drawing in hand
+unfoldable pub gone : Setup → Way → Pen → Pen
+gone s (Along from to e drawing) pen = penStepped s from to e drawing pen
+gone s (Row drawing) pen = rowPassed s drawing pen
+gone s (Here drawing) pen = penWith drawing pen

@@ -1,0 +1,27 @@
+ghost use mathlib.Core.Path.{_≡_};
+ghost use Rattle.moves.specs.Moves.{moved};
+use crate::Pen;
+use crate::Setup;
+use crate::Way;
+use crate::pens::pass_row;
+use crate::pens::pen_with;
+use crate::pens::step_pen;
+use crate::ways::way_of;
+
+// The pen after this position; with nothing in hand it stays. The ways of all drawings meet here, so that a loop over
+// positions has one step in it and copies no set-up to take it.
+pub fn next(setup: Setup, pen: Pen) -> Pen
+    ensures { λ r. ⌜ r ≡ moved setup pen ⌝ }
+{
+    let way = way_of(setup, pen);
+    match way {
+        Way::Along {
+            from,
+            to,
+            e,
+            drawing,
+        } => step_pen(setup, from, to, e, drawing, pen),
+        Way::Row { drawing } => pass_row(setup, drawing, pen),
+        Way::Here { drawing } => pen_with(drawing, pen),
+    }
+}

@@ -1,0 +1,49 @@
+ghost use mathlib.Core.Path.{_≡_};
+ghost use Prim.Native.Nat.{_%_};
+ghost use lib.Dec.{ltb, eqb};
+ghost use Rattle.numbers.specs.Choose.{choose};
+ghost use Rattle.moves.specs.Steps.{lineStep, codeStep};
+use crate::Course;
+use crate::Step;
+use crate::Turn;
+
+// The step of a line at this error.
+pub fn line_step(course: Course, e: i32) -> Step
+    ensures { λ r. ⌜ r ≡ lineStep course e ⌝ }
+{
+    let x = course.x;
+    let y = course.y;
+    if e < 0 {
+        if course.steep {
+            Step { x: Turn::Stay, y }
+        } else {
+            Step { x, y: Turn::Stay }
+        }
+    } else {
+        Step { x, y }
+    }
+}
+
+// The turn in Y of a direction; that in X is the one of two directions before.
+fn turn_of(direction: u8) -> Turn
+    ensures { λ r. ⌜ r ≡ choose (eqb (direction % 4) 0) Turn.Stay (choose (ltb direction 4) Turn.Back Turn.Forth) ⌝ }
+{
+    if direction % 4 == 0 {
+        Turn::Stay
+    } else if direction < 4 {
+        Turn::Back
+    } else {
+        Turn::Forth
+    }
+}
+
+// The step of a code.
+pub fn code_step(code: u8) -> Step
+    ensures { λ r. ⌜ r ≡ codeStep code ⌝ }
+{
+    let direction = code / 32;
+    Step {
+        x: turn_of((direction + 6) % 8),
+        y: turn_of(direction),
+    }
+}

@@ -1,0 +1,107 @@
+ghost use mathlib.Core.Path.{_≡_};
+ghost use Prim.Native.Nat.{_+_};
+ghost use Rattle.numbers.specs.Circles.{forth, back};
+ghost use Rattle.moves.specs.Turns as defined;
+use crate::Step;
+use crate::Turn;
+use numbers::circles::destination_back;
+use numbers::circles::destination_forth;
+use numbers::circles::step_back;
+use numbers::circles::step_forth;
+use numbers::circles::steps_back;
+use numbers::circles::steps_forth;
+use parts::shapes::Point;
+use parts::shapes::Spot;
+use pixels::Map;
+
+// The other way.
+pub fn opposite(turn: Turn) -> Turn
+    ensures { λ r. ⌜ r ≡ defined.opposite turn ⌝ }
+{
+    match turn {
+        Turn::Stay => Turn::Stay,
+        Turn::Forth => Turn::Back,
+        Turn::Back => Turn::Forth,
+    }
+}
+
+// `count` steps forth in a map that ends at `last`; it divides only where they leave the map.
+fn forth_by(count: u16, last: u16, x: u16) -> u16
+    ensures { λ r. ⌜ r ≡ forth (last + 1) count x ⌝ }
+{
+    if x <= last {
+        if count <= last - x {
+            return x + count;
+        }
+    }
+    steps_forth(x, last, count)
+}
+
+// `count` steps back in a map that ends at `last`; it divides only where they leave the map.
+fn back_by(count: u16, last: u16, x: u16) -> u16
+    ensures { λ r. ⌜ r ≡ back (last + 1) count x ⌝ }
+{
+    if x <= last {
+        if count <= x {
+            return x - count;
+        }
+    }
+    steps_back(x, last, count)
+}
+
+// `count` steps of a pointer in a map that ends at `last`.
+pub fn turn_by(turn: Turn, count: u16, last: u16, x: u16) -> u16
+    ensures { λ r. ⌜ r ≡ defined.turnedBy turn count last x ⌝ }
+{
+    match turn {
+        Turn::Stay => x,
+        Turn::Forth => forth_by(count, last, x),
+        Turn::Back => back_by(count, last, x),
+    }
+}
+
+// One step of a pointer in a map that ends at `last`.
+pub fn turn_once(turn: Turn, last: u16, x: u16) -> u16
+    ensures { λ r. ⌜ r ≡ defined.turnedBy turn 1 last x ⌝ }
+{
+    match turn {
+        Turn::Stay => x,
+        Turn::Forth => step_forth(x, last),
+        Turn::Back => step_back(x, last),
+    }
+}
+
+// `count` steps of a destination pointer.
+pub fn circle_by(turn: Turn, count: u16, z: i16) -> i16
+    ensures { λ r. ⌜ r ≡ defined.circledBy turn count z ⌝ }
+{
+    match turn {
+        Turn::Stay => z,
+        Turn::Forth => destination_forth(z, count),
+        Turn::Back => destination_back(z, count),
+    }
+}
+
+// A source or pattern pointer after one step in its map.
+pub fn step_point(map: Map, step: Step, p: Point) -> Point
+    ensures { λ r. ⌜ r ≡ defined.pointStepped map step p ⌝ }
+{
+    let across = step.x;
+    let down = step.y;
+    Point {
+        x: turn_once(across, map.width, p.x),
+        y: turn_once(down, map.height, p.y),
+    }
+}
+
+// The destination pointer after one step.
+pub fn step_spot(step: Step, p: Spot) -> Spot
+    ensures { λ r. ⌜ r ≡ defined.spotStepped step p ⌝ }
+{
+    let across = step.x;
+    let down = step.y;
+    Spot {
+        x: circle_by(across, 1, p.x),
+        y: circle_by(down, 1, p.y),
+    }
+}

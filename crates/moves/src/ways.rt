@@ -1,0 +1,180 @@
+ghost use mathlib.Core.Path.{_≡_};
+ghost use mathlib.Core.Bool.{false};
+ghost use Prim.Native.Nat.{_+_};
+ghost use lib.Dec.{ltb};
+ghost use Rattle.numbers.specs.Choose.{choose};
+ghost use Rattle.moves.specs.Moves as defined;
+use crate::Course;
+use crate::Pen;
+use crate::Setup;
+use crate::Step;
+use crate::Turn;
+use crate::Way;
+use crate::steps::code_step;
+use crate::steps::line_step;
+use numbers::circles::term_sum;
+use parts::drawing::Drawing;
+use rules::starts::code_at;
+
+// X by +1.
+fn right() -> Step
+    ensures { λ r. ⌜ r ≡ defined.right ⌝ }
+{
+    Step {
+        x: Turn::Forth,
+        y: Turn::Stay,
+    }
+}
+
+// The step of the source and the pattern: the drawing's in a read form, otherwise to the right.
+fn source_by(course: Course, step: Step) -> Step
+    ensures { λ r. ⌜ r ≡ defined.sourceBy course step ⌝ }
+{
+    let aside = right();
+    if course.read { step } else { aside }
+}
+
+// The step of the destination: to the right in a read form, otherwise the drawing's.
+fn destination_by(course: Course, step: Step) -> Step
+    ensures { λ r. ⌜ r ≡ defined.destinationBy course step ⌝ }
+{
+    let aside = right();
+    if course.read { aside } else { step }
+}
+
+// The way of one step of a line or code.
+fn way_along(course: Course, step: Step, e: i32, drawing: Drawing) -> Way
+    ensures { λ r. ⌜ r ≡ Way.Along (defined.sourceBy course step) (defined.destinationBy course step) e drawing ⌝ }
+{
+    Way::Along {
+        from: source_by(course, step),
+        to: destination_by(course, step),
+        e,
+        drawing,
+    }
+}
+
+// E after a position of a line.
+fn line_error(setup: Setup, e: i32) -> i32
+    ensures { λ r. ⌜ r ≡ defined.lineError setup e ⌝ }
+{
+    if e < 0 {
+        term_sum(e, setup.k1)
+    } else {
+        term_sum(e, setup.k2)
+    }
+}
+
+// The way from a position of a line.
+fn line_way(setup: Setup, done: u16, pen: Pen) -> Way
+    ensures { λ r. ⌜ defined.gone setup r pen ≡ defined.lineMoved setup done pen ⌝ }
+{
+    let course = setup.course;
+    if done < setup.dimensions.x {
+        way_along(
+            course,
+            line_step(course, pen.e),
+            line_error(setup, pen.e),
+            Drawing::Line { done: done + 1 },
+        )
+    } else {
+        Way::Here {
+            drawing: Drawing::Nothing { stopped: false },
+        }
+    }
+}
+
+// The drawing after a code's last position: the next code, a stop at 00, or nothing where no code is left.
+fn pass_code(steps: u32, count: u8, code: u16) -> Drawing
+    ensures { λ r. ⌜ r ≡ defined.codePassed steps count code ⌝ }
+{
+    if code as u32 + 1 < count as u32 {
+        let following = code + 1;
+        if code_at(steps, count, following) == 0 {
+            Drawing::Nothing { stopped: true }
+        } else {
+            Drawing::Codes {
+                count,
+                code: following,
+                done: 0,
+            }
+        }
+    } else {
+        Drawing::Nothing { stopped: false }
+    }
+}
+
+// The way from a position of a code.
+fn code_way(setup: Setup, count: u8, code: u16, done: u16, pen: Pen) -> Way
+    ensures { λ r. ⌜ defined.gone setup r pen ≡ defined.codesMoved setup count code done pen ⌝ }
+{
+    let course = setup.course;
+    let current = code_at(setup.steps, count, code);
+    if done < (current % 16) as u16 {
+        way_along(
+            course,
+            code_step(current),
+            pen.e,
+            Drawing::Codes {
+                count,
+                code,
+                done: done + 1,
+            },
+        )
+    } else {
+        Way::Here {
+            drawing: pass_code(setup.steps, count, code),
+        }
+    }
+}
+
+// The drawing after a row: the next row, or nothing after the last.
+fn row_after(row: u16, last: u16) -> Drawing
+    ensures { λ r. ⌜ r ≡ choose (ltb row last) (Drawing.Block 0 (row + 1)) (Drawing.Nothing false) ⌝ }
+{
+    if row < last {
+        Drawing::Block {
+            column: 0,
+            row: row + 1,
+        }
+    } else {
+        Drawing::Nothing { stopped: false }
+    }
+}
+
+// The way from a position of a block.
+fn block_way(setup: Setup, column: u16, row: u16, pen: Pen) -> Way
+    ensures { λ r. ⌜ defined.gone setup r pen ≡ defined.blockMoved setup column row pen ⌝ }
+{
+    let course = setup.course;
+    let x = course.x;
+    if column < setup.dimensions.x {
+        let step = Step { x, y: Turn::Stay };
+        Way::Along {
+            from: step,
+            to: step,
+            e: pen.e,
+            drawing: Drawing::Block {
+                column: column + 1,
+                row,
+            },
+        }
+    } else {
+        Way::Row {
+            drawing: row_after(row, setup.dimensions.y),
+        }
+    }
+}
+
+// The way from this position; with nothing in hand there is none.
+pub(crate) fn way_of(setup: Setup, pen: Pen) -> Way
+    ensures { λ r. ⌜ defined.gone setup r pen ≡ defined.moved setup pen ⌝ }
+{
+    let drawing = pen.drawing;
+    match drawing {
+        Drawing::Nothing { stopped: _ } => Way::Here { drawing },
+        Drawing::Line { done } => line_way(setup, done, pen),
+        Drawing::Codes { count, code, done } => code_way(setup, count, code, done, pen),
+        Drawing::Block { column, row } => block_way(setup, column, row, pen),
+    }
+}

@@ -1,0 +1,104 @@
+-- A field is what was put into it and no other field sees that: a number is its digits above, in and below the field.
+use mathlib.Core.Path.{_≡_, sym, ap, _∙_}
+use mathlib.Core.Logic.{_⊎_, inl, inr}
+use Prim.Native.Nat.{ℕ, zero, _+_, _-_, _*_, _/_, _%_, _^_, _≤_, _<_}
+use native.Mathlib.Nat.{le-trans, lt-of-lt-of-le, one-mul, mul-comm, mul-assoc, add-mul, mul-le-mul-right}
+use native.Mathlib.Nat.{mod-lt, mod-le, mod-mod, mod-eq-of-lt, zero-mod, zero-div, div-mul-le-self, div-lt-iff-lt-mul}
+use native.Mathlib.Omega.{arith}
+use lib.Pow as pow
+use lib.Pow.{pow-pos, pow-mono, pow-add, shl-lt, shl-exact, shr-lt, shr-shr, split, high, low, mod-mod-pow}
+use Rattle.numbers.specs.Fields.{field, withField}
+
+-- ---- shifts
+
+pub one-shl : (k w : ℕ) → k < w → 1 * 2 ^ k % 2 ^ w ≡ 2 ^ k
+one-shl k w h = shl-exact 1 k w (omega arith) (omega arith) ∙ one-mul (2 ^ k)
+
+pub low-shl-lt : (s n k v : ℕ) → s + n ≤ k → v % 2 ^ n * 2 ^ s < 2 ^ k
+low-shl-lt s n k v h = lt-of-lt-of-le (shl-lt n s (mod-lt v (pow-pos n))) (pow-mono (omega arith))
+
+pub lt-of-shr : {x : ℕ} (j k : ℕ) → x / 2 ^ k < 2 ^ j → x < 2 ^ (j + k)
+lt-of-shr j k h = rw pow-add (div-lt-iff-lt-mul (pow-pos k) .0 h)
+
+-- ---- a field
+
+pub field-lt : (s n x : ℕ) → field s n x < 2 ^ n
+unfolding field
+field-lt s n x = mod-lt (x / 2 ^ s) (pow-pos n)
+
+pub field-zero : (s n : ℕ) → field s n zero ≡ zero
+unfolding field
+field-zero s n = rw (zero-div (2 ^ s), zero-mod (2 ^ n))
+
+pub field-le : (s n x : ℕ) → field s n x * 2 ^ s ≤ x
+unfolding field
+field-le s n x = le-trans (mul-le-mul-right (2 ^ s) (mod-le (x / 2 ^ s) (2 ^ n))) (div-mul-le-self x (2 ^ s))
+
+-- a field is within the digits below its end
+pub field-mod : (s n k x : ℕ) → s + n ≤ k → field s n (x % 2 ^ k) ≡ field s n x
+unfolding field
+field-mod s n k x h =
+    let e : k - (n + s) + (n + s) ≡ k = omega arith in
+    sym (pow.field (x % 2 ^ k) n s)
+    ∙ ap (λ (y : ℕ). y / 2 ^ s) (rw e at (mod-mod-pow x (k - (n + s)) (n + s)))
+    ∙ pow.field x n s
+
+-- a field is within the digits above any place below it
+pub field-shr : (s n k x : ℕ) → k ≤ s → field (s - k) n (x / 2 ^ k) ≡ field s n x
+unfolding field
+field-shr s n k x h =
+    let e : k + (s - k) ≡ s = omega arith in
+    ap (λ (y : ℕ). y % 2 ^ n) (rw e at (shr-shr x k (s - k)))
+
+-- ---- a number with another field
+
+module _ (s n v x : ℕ) where
+  -- as a number of the digits from the field on, and those below it
+  with-split : withField s n v x ≡ (x / 2 ^ (s + n) * 2 ^ n + v % 2 ^ n) * 2 ^ s + x % 2 ^ s
+  unfolding withField
+  with-split =
+      ap (λ (y : ℕ). y + x % 2 ^ s)
+      (ap (λ (y : ℕ). x / 2 ^ (s + n) * y + v % 2 ^ n * 2 ^ s) (pow-add 2 s n ∙ mul-comm (2 ^ s) (2 ^ n))
+      ∙ rw (add-mul, mul-assoc))
+
+  with-field-shr : withField s n v x / 2 ^ s ≡ x / 2 ^ (s + n) * 2 ^ n + v % 2 ^ n
+  with-field-shr = rw with-split (high _ s (mod-lt x (pow-pos s)))
+
+  -- what lies below the field stays
+  pub with-field-below : withField s n v x % 2 ^ s ≡ x % 2 ^ s
+  with-field-below = rw with-split (low _ s (mod-lt x (pow-pos s)))
+
+  -- what lies above the field stays
+  pub with-field-above : withField s n v x / 2 ^ (s + n) ≡ x / 2 ^ (s + n)
+  with-field-above =
+      sym (shr-shr (withField s n v x) s n) ∙ ap (λ (y : ℕ). y / 2 ^ n) with-field-shr
+      ∙ high (x / 2 ^ (s + n)) n (mod-lt v (pow-pos n))
+
+  pub field-with-same : field s n (withField s n v x) ≡ v % 2 ^ n
+  unfolding field
+  field-with-same = rw with-field-shr (low (x / 2 ^ (s + n)) n (mod-lt v (pow-pos n)))
+
+  pub field-with-other : (t m : ℕ) → (t + m ≤ s) ⊎ (s + n ≤ t) → field t m (withField s n v x) ≡ field t m x
+  field-with-other t m (inl h) =
+      sym (field-mod t m s (withField s n v x) h) ∙ ap (field t m) with-field-below ∙ field-mod t m s x h
+  field-with-other t m (inr h) =
+      sym (field-shr t m (s + n) (withField s n v x) h) ∙ ap (field (t - (s + n)) m) with-field-above
+      ∙ field-shr t m (s + n) x h
+
+  -- a number of k digits stays one
+  pub with-field-lt : (k : ℕ) → s + n ≤ k → x < 2 ^ k → withField s n v x < 2 ^ k
+  with-field-lt k h l =
+      let e : k - (s + n) + (s + n) ≡ k = omega arith in
+      let top : x / 2 ^ (s + n) < 2 ^ (k - (s + n)) = shr-lt (k - (s + n)) (s + n) (rw e l) in
+      rw e at (lt-of-shr {x = withField s n v x} (k - (s + n)) (s + n) (rw with-field-above top))
+
+-- putting a field's own digits into it changes nothing
+pub with-field-self : (s n x : ℕ) → withField s n (field s n x) x ≡ x
+unfolding field
+with-field-self s n x =
+    with-split s n (x / 2 ^ s % 2 ^ n) x ∙ rw (mod-mod, ← shr-shr, split (x / 2 ^ s) n, split x s)
+
+-- the field's digits taken out, and others put in
+pub with-field-sum : (s n v x : ℕ) → withField s n v x ≡ x - field s n x * 2 ^ s + v % 2 ^ n * 2 ^ s
+unfolding withField
+with-field-sum s n v x = omega (arith, rw (mod-eq-of-lt (field-lt s n x)) at (with-field-self s n x))

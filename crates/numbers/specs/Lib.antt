@@ -1,0 +1,4 @@
+pub mod Choose
+pub mod Bytes
+pub mod Circles
+pub mod Fields

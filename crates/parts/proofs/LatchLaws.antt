@@ -1,0 +1,67 @@
+-- The laws of a register in a write: one that the write does not touch stays, and one that it touches is below its bound, whichever way the choice goes.
+use mathlib.Core.Path.{_≡_, refl, _∙_}
+use mathlib.Core.Bool.{Bool, true, false, true≢false, and-eq-true-iff}
+use Prim.Native.Nat.{ℕ, _+_, _-_, _^_, _≤_, _<_}
+use native.Mathlib.Nat.{mod-lt, mod-eq-of-lt}
+use native.Mathlib.Omega.{arith}
+use lib.Dec.{leb, ltb}
+use lib.IntN.{ℤ}
+use lib.Pow.{pow-pos}
+use borrow.Author.Tests.{leb-true, ltb-true, lt-ltb}
+use Rattle.numbers.specs.Choose.{choose}
+use Rattle.numbers.specs.Bytes.{covers, latched}
+use Rattle.numbers.specs.declared.bytes.Write.{Write}
+use Rattle.numbers.proofs.ByteLaws.{latched-lt, latched-uncovered}
+use Rattle.parts.specs.Latches.{touched, taken, takenLow, takenTerm, takenDestination}
+
+-- what holds of both holds of the chosen one
+pub choose-either : {A : Type 0} (P : A → Type 0) (t : Bool) {a b : A} → P a → P b → P (choose t a b)
+choose-either P true p q = p
+choose-either P false p q = q
+
+-- ---- a register that the write does not touch
+
+module _ (n at : ℕ) (w : Write) (apart : touched n at w ≡ false) where
+  -- none of its bytes is covered
+  pub uncovered : (k : ℕ) → at ≤ k → k < at + n → covers w k ≡ false
+  unfolding touched covers
+  uncovered k from to = by (covers w k) refl
+    where
+      by : (t : Bool) → covers w k ≡ t → covers w k ≡ false
+      by false e = e
+      by true e =
+          let parts = and-eq-true-iff (leb (w .offset) k) (ltb (k - w .offset) (w .length)) .0 e in
+          let below : w .offset ≤ k = leb-true _ _ (parts .0) in
+          let inside : k - w .offset < w .length = ltb-true _ _ (parts .1) in
+          let before : ltb (w .offset) (at + n) ≡ true = lt-ltb (w .offset) (at + n) (omega arith) in
+          let after : ltb at (w .offset + w .length) ≡ true = lt-ltb at (w .offset + w .length) (omega arith) in
+          absurd (true≢false (simp (before, after) at apart))
+
+  pub latched-apart : (stored : ℕ) → stored < 256 ^ n → latched n at w stored ≡ stored
+  latched-apart stored h = latched-uncovered n at w stored uncovered ∙ mod-eq-of-lt h
+
+  pub taken-untouched : (stored : ℕ) → taken n at w stored ≡ stored
+  unfolding taken
+  taken-untouched stored = rw apart
+
+  pub low-untouched : (bits stored : ℕ) → takenLow bits n at w stored ≡ stored
+  unfolding takenLow
+  low-untouched bits stored = rw apart
+
+pub term-untouched : (at : ℕ) (w : Write) → touched 4 at w ≡ false → (z : ℤ) → takenTerm at w z ≡ z
+unfolding takenTerm
+term-untouched at w apart z = rw apart
+
+pub destination-untouched : (at : ℕ) (w : Write) → touched 2 at w ≡ false → (z : ℤ) → takenDestination at w z ≡ z
+unfolding takenDestination
+destination-untouched at w apart z = rw apart
+
+-- ---- a register after any write
+
+pub taken-lt : (n at : ℕ) (w : Write) (stored : ℕ) → stored < 256 ^ n → taken n at w stored < 256 ^ n
+unfolding taken
+taken-lt n at w stored h = choose-either (λ (x : ℕ). x < 256 ^ n) (touched n at w) (latched-lt n at w stored) h
+
+pub low-taken-lt : (bits n at : ℕ) (w : Write) (stored : ℕ) → stored < 2 ^ bits → takenLow bits n at w stored < 2 ^ bits
+unfolding takenLow
+low-taken-lt bits n at w stored h = choose-either (λ (x : ℕ). x < 2 ^ bits) (touched n at w) (mod-lt _ (pow-pos bits)) h

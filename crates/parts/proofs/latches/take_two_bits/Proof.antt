@@ -1,0 +1,32 @@
+-- `take_two_bits` chooses as the definition does, between the low bits of the latched byte and the stored one.
+use mathlib.Core.Path.{sym, _∙_}
+use borrow.Author.Needs.{needs}
+use Rattle.parts.specs.Latches.{takenLow}
+use Rattle.parts.proofs.latches.take_two_bits.Statement.{statement}
+use Rattle.parts.proofs.latches.take_two_bits.Tie as tie
+
+touches-requires : tie.Need-touches-requires
+touches-requires c κs = search needs
+
+latch1-requires : tie.Need-latch1-requires
+latch1-requires c κs = search needs
+
+cast-two-bits : tie.Need-cast-two-bits
+cast-two-bits c = search needs
+
+two-bits-requires : tie.Need-two-bits-requires
+two-bits-requires c κs = search needs
+
+returns : tie.Need-returns
+unfolding takenLow
+returns c =
+    simp (sym (c .before .before .before .touches .ensures) ∙ c .before .before .if1 .taken) (rw (c .two-bits .ensures, c .before .latch1 .ensures))
+
+returns-2 : tie.Need-returns-2
+unfolding takenLow
+returns-2 c = simp (sym (c .before .touches .ensures) ∙ c .if1 .left)
+
+pub take-two-bits-spec : {M : Type 1} → statement M
+take-two-bits-spec =
+    tie.close
+    (tie.spec touches-requires latch1-requires cast-two-bits two-bits-requires returns returns-2)

@@ -1,0 +1,31 @@
+-- `is_listed` says what the list of registers says, since the bits of either half agree with it at every offset and length.
+use mathlib.Core.Path.{refl, _∙_}
+use Prim.Native.Nat.{_-_}
+use native.Mathlib.Omega.{arith}
+use borrow.Author.Needs.{needs}
+use Rattle.parts.specs.Registers.{registers, among, listed}
+use Rattle.parts.proofs.Every.{every}
+use Rattle.parts.proofs.RegisterLaws.{agrees, half-listed}
+use Rattle.parts.proofs.registers.is_listed.Statement.{statement}
+use Rattle.parts.proofs.registers.is_listed.Tie as tie
+
+all-set-requires : tie.Need-all-set-requires
+all-set-requires c κs = search needs
+
+all-set-requires-2 : tie.Need-all-set-requires-2
+all-set-requires-2 c κs = search needs
+
+returns : tie.Need-returns
+unfolding registers among listed every agrees
+returns c =
+    let at = c .before .before .args in
+    c .all-set .ensures ∙ half-listed _ 0 refl (at .offset) (at .length) (at .offset) (omega arith) (omega arith) (omega arith)
+
+returns-2 : tie.Need-returns-2
+unfolding registers among listed every agrees
+returns-2 c =
+    let at = c .before .before .args in
+    c .all-set2 .ensures ∙ half-listed _ 64 refl (at .offset - 64) (at .length) (at .offset) (omega arith) (omega arith) (omega arith)
+
+pub is-listed-spec : {M : Type 1} → statement M
+is-listed-spec = tie.close (tie.spec all-set-requires all-set-requires-2 returns returns-2)

@@ -1,0 +1,88 @@
+-- Where pixels lie: by the four sizes, a pixel lies within one byte; by its row and column, no two share a bit.
+use mathlib.Core.Path.{_≡_, sym, ap, _∙_}
+use mathlib.Core.Logic.{_⊎_, inl, inr, ⊎-elim}
+use Prim.Native.Nat.{ℕ, zero, suc, _+_, _-_, _*_, _/_, _%_, _^_, _≤_, _<_}
+use native.Mathlib.Nat.{mul-comm, mul-le-mul-right}
+use native.Mathlib.Omega.{arith}
+use lib.Arith.{digits-lt, digits-div, digits-mod}
+use lib.Pow.{pow-pos}
+use Rattle.numbers.proofs.Order.{lt-or-le}
+use Rattle.pixels.specs.declared.Map.{Map}
+use Rattle.pixels.specs.Maps.{bitsOf, startOf, placeOf, shiftOf, neededOf}
+
+-- ---- the four sizes
+
+-- what holds of the numbers below 4, the codes of the four sizes, holds of each format's
+pub by-size : (P : ℕ → Type 0) → P 0 → P 1 → P 2 → P 3 → (format : ℕ) → P (format % 4)
+by-size P p q r s format = by (format % 4) (omega arith)
+  where
+    by : (k : ℕ) → k < 4 → P k
+    by zero h = p
+    by (suc zero) h = q
+    by (suc (suc zero)) h = r
+    by (suc (suc (suc zero))) h = s
+    by (suc (suc (suc (suc k)))) h = absurd (omega arith)
+
+pub bits-le : (format : ℕ) → bitsOf format ≤ 8
+unfolding bitsOf
+bits-le = by-size (λ (k : ℕ). 2 ^ k ≤ 8) (omega arith) (omega arith) (omega arith) (omega arith)
+
+-- a pixel's byte is found by a shift
+pub start-shr : (format n : ℕ) → n * bitsOf format / 8 ≡ n / 2 ^ (3 - format % 4)
+unfolding bitsOf
+start-shr format n =
+    by-size (λ (k : ℕ). n * 2 ^ k / 8 ≡ n / 2 ^ (3 - k)) (omega arith) (omega arith) (omega arith) (omega arith) format
+
+-- ---- rows and columns
+
+-- how many pixels of the map come before this one
+abbrev index : Map → ℕ → ℕ → ℕ
+index map x y = y * (map .width + 1) + x
+
+-- a position within the map is one of its pixels
+index-lt : (map : Map) (x y : ℕ) → x ≤ map .width → y ≤ map .height → index map x y < (map .width + 1) * (map .height + 1)
+index-lt map x y h v = rw (mul-comm (map .width + 1) (map .height + 1)) (digits-lt (omega arith) (omega arith))
+
+-- no two positions of a map are one pixel
+index-apart : (map : Map) (x y x' y' : ℕ) → x ≤ map .width → x' ≤ map .width → ((x ≡ x') × (y ≡ y') → ⊥)
+    → index map x y ≡ index map x' y' → ⊥
+index-apart map x y x' y' h h' ne e =
+    let i : x < map .width + 1 = omega arith in
+    let i' : x' < map .width + 1 = omega arith in
+    ne (
+      sym (digits-mod y i) ∙ ap (λ (n : ℕ). n % (map .width + 1)) e ∙ digits-mod y' i',
+      sym (digits-div y i) ∙ ap (λ (n : ℕ). n / (map .width + 1)) e ∙ digits-div y' i',
+    )
+
+-- ---- bits and bytes
+
+-- a pixel within the map lies within the bytes that the map takes
+pub place-lt : (map : Map) (x y : ℕ) → x ≤ map .width → y ≤ map .height → placeOf map x y < map .base + neededOf map
+unfolding bitsOf startOf placeOf neededOf
+place-lt map x y h v =
+    omega (arith, mul-le-mul-right (bitsOf (map .format)) (index-lt map x y h v), pow-pos (map .format % 4))
+
+-- a pixel lies within one byte
+pub in-byte : (map : Map) (x y : ℕ) → shiftOf map x y + bitsOf (map .format) ≤ 8
+unfolding bitsOf startOf shiftOf
+in-byte map x y =
+    by-size (λ (k : ℕ). index map x y * 2 ^ k % 8 + 2 ^ k ≤ 8) (omega arith) (omega arith) (omega arith) (omega arith)
+    (map .format)
+
+-- a pixel ends at the start of any later one, or before it
+start-before : (map : Map) (x y x' y' : ℕ) → index map x y < index map x' y'
+    → startOf map x y + bitsOf (map .format) ≤ startOf map x' y'
+unfolding startOf
+start-before map x y x' y' h = omega (arith, mul-le-mul-right (bitsOf (map .format)) h)
+
+-- two pixels of one byte share no bit of it
+pub shifts-apart : (map : Map) (x y x' y' : ℕ) → x ≤ map .width → x' ≤ map .width → ((x ≡ x') × (y ≡ y') → ⊥)
+    → placeOf map x' y' ≡ placeOf map x y
+    → (shiftOf map x' y' + bitsOf (map .format) ≤ shiftOf map x y) ⊎ (shiftOf map x y + bitsOf (map .format) ≤ shiftOf map x' y')
+unfolding placeOf shiftOf
+shifts-apart map x y x' y' h h' ne e =
+    ⊎-elim (λ lt. inr (omega (arith, start-before map x y x' y' lt)))
+    (λ ge.
+    let gt : index map x' y' < index map x y = omega (arith, index-apart map x y x' y' h h' ne) in
+    inl (omega (arith, start-before map x' y' x y gt)))
+    (lt-or-le (index map x y) (index map x' y'))

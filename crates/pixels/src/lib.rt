@@ -1,0 +1,99 @@
+// A pixel of 1, 2, 4 or 8 bits in lent bytes.
+
+ghost use mathlib.Core.Path.{_≡_};
+ghost use Prim.Native.Nat.{_+_, _*_, _-_, _^_, _≤_};
+ghost use Rattle.numbers.specs.Fields.{field, withField};
+ghost use Rattle.pixels.specs.Maps.{bitsOf, neededOf, placeOf, shiftOf};
+ghost use Rattle.pixels.specs.Pixels.{pixelAt, withPixel};
+
+// A pixel map: where it starts, one less than its width and height in pixels, and its format code.
+pub struct Map {
+    pub base: u32,
+    pub width: u16,
+    pub height: u16,
+    pub format: u8,
+}
+
+// The size of a pixel of this format, in bits.
+pub fn bits_of(format: u8) -> u32
+    ensures { λ r. ⌜ r ≡ bitsOf format ⌝ }
+{
+    1 << (format % 4)
+}
+
+// The bytes that the map takes from its base on.
+pub fn needed(map: Map) -> u64
+    ensures { λ r. ⌜ r ≡ neededOf map ⌝ }
+{
+    let row = (map.width as u64) + 1;
+    let rows = (map.height as u64) + 1;
+    (row * rows * (bits_of(map.format) as u64) + 7) / 8
+}
+
+// How many pixels of the map come before this one.
+fn index(map: Map, x: u16, y: u16) -> u32
+    ensures { λ r. ⌜ r ≡ y * (map .width + 1) + x ⌝ }
+{
+    (y as u32) * ((map.width as u32) + 1) + (x as u32)
+}
+
+// The byte of memory in which the pixel lies, within the memory or beyond it.
+pub fn place(map: Map, x: u16, y: u16) -> usize
+    ensures { λ r. ⌜ r ≡ placeOf map x y ⌝ }
+{
+    (map.base as usize) + ((index(map, x, y) >> (3 - map.format % 4)) as usize)
+}
+
+// How far above its byte's lowest bit the pixel lies.
+fn shift(map: Map, x: u16, y: u16) -> u32
+    ensures { λ r. ⌜ r ≡ shiftOf map x y ⌝ }
+{
+    (index(map, x, y) << (map.format % 4)) & 7
+}
+
+// The largest number of so many bits.
+fn mask(bits: u32) -> u32
+    requires { ⌜ bits ≤ 8 ⌝ }
+    ensures { λ r. ⌜ r ≡ 2 ^ bits - 1 ⌝ }
+{
+    (1 << bits) - 1
+}
+
+// The bits of a byte from a shift on.
+fn taken(byte: u8, shift: u32, bits: u32) -> u32
+    requires { ⌜ shift + bits ≤ 8 ⌝ }
+    ensures { λ r. ⌜ r ≡ field shift bits byte ⌝ }
+{
+    ((byte as u32) >> shift) & mask(bits)
+}
+
+// A byte with other bits from a shift on: the old ones are taken out, and the low bits of value put in.
+fn replaced(byte: u8, shift: u32, bits: u32, value: u32) -> u8
+    requires { ⌜ shift + bits ≤ 8 ⌝ }
+    ensures { λ r. ⌜ r ≡ withField shift bits value byte ⌝ }
+{
+    let old = taken(byte, shift, bits);
+    let new = value & mask(bits);
+    ((byte as u32) - (old << shift) + (new << shift)) as u8
+}
+
+// The pixel, or 0 where it lies beyond the memory.
+pub fn get(memory: &[u8], map: Map, x: u16, y: u16) -> u32
+    ensures { λ r. ⌜ r ≡ pixelAt (now (memory .entry)) map x y ⌝ }
+{
+    let at = place(map, x, y);
+    if memory.len() <= at {
+        return 0;
+    }
+    taken(memory[at], shift(map, x, y), bits_of(map.format))
+}
+
+// Stores the low bits of value as the pixel; where that lies beyond the memory, nothing.
+pub fn put(memory: &mut [u8], map: Map, x: u16, y: u16, value: u32)
+    ensures { λ _. ⌜ now (memory .exit) ≡ withPixel (now (memory .entry)) map x y value ⌝ }
+{
+    let at = place(map, x, y);
+    if at < memory.len() {
+        memory[at] = replaced(memory[at], shift(map, x, y), bits_of(map.format), value);
+    }
+}

@@ -1,0 +1,4 @@
+pub mod Choices
+pub mod Columns
+pub mod Examples
+pub mod Writing

@@ -1,0 +1,85 @@
+-- A position changes at most the byte of its destination pixel: of all fates only `Written` puts a pixel, and that one lies on the map.
+use mathlib.Core.Path.{_≡_, refl}
+use mathlib.Core.Bool.{Bool, true, false, not}
+use mathlib.Core.List.{List}
+use Prim.Native.Nat.{ℕ, _≤_, _<_}
+use lib.ListN.{length, getD}
+use Rattle.numbers.specs.Choose.{choose}
+use Rattle.pixels.specs.Maps.{placeOf}
+use Rattle.pixels.specs.Pixels.{withPixel}
+use Rattle.pixels.proofs.Pixels.{length-put, byte-put-other, byte-put-lt}
+use Rattle.moves.specs.declared.Setup.{Setup}
+use Rattle.moves.specs.declared.Pen.{Pen}
+use Rattle.position.specs.declared.Fate.{Fate}
+use Rattle.position.specs.declared.Fate.the-variants.{Moved, Nulled, OutsideMap, OutsideMask, MaskZero, Compared, Written}
+use Rattle.position.specs.Places.{isWithin, columnOf, onMap, isMove, isNulled}
+use Rattle.position.specs.Fates.{fateOf}
+use Rattle.position.specs.Drawn.{mixedPixel, drawnBy, drawn}
+use Rattle.position.proofs.Choices.{both-true}
+use Rattle.position.proofs.Columns.{within-column}
+
+-- the destination's column and row
+abbrev column : Pen → ℕ
+column pen = columnOf (pen .destination .x)
+
+abbrev row : Pen → ℕ
+row pen = columnOf (pen .destination .y)
+
+-- a position on the map is a pixel of it
+pub on-map : (s : Setup) (pen : Pen) → onMap s pen ≡ true → (column pen ≤ s .destination .width) × (row pen ≤ s .destination .height)
+unfolding onMap
+on-map s pen e =
+    let h = both-true (isWithin (s .destination .width) (pen .destination .x)) _ e in
+    (within-column _ (pen .destination .x) (h .0), within-column _ (pen .destination .y) (h .1))
+
+-- a position that is neither moved nor nulled nor outside its map is on it
+passed : (moved nulled on : Bool) (f : Fate) → choose moved Moved (choose nulled Nulled (choose (not on) OutsideMap f)) ≡ Written → on ≡ true
+passed true nulled on f e = cc
+passed false true on f e = cc
+passed false false true f e = refl
+passed false false false f e = cc
+
+module _ (s : Setup) (memory : List ℕ) (pen : Pen) where
+  pub written-on-map : fateOf s memory pen ≡ Written → onMap s pen ≡ true
+  unfolding fateOf
+  written-on-map e = passed (isMove s (pen .drawing)) (isNulled s (pen .drawing)) (onMap s pen) _ e
+
+  -- memory with the destination pixel mixed
+  abbrev put : List ℕ
+  put = withPixel memory (s .destination) (column pen) (row pen) (mixedPixel s memory pen)
+
+  -- what holds of memory, and of memory with the pixel mixed where that is written, holds of what is drawn
+  pub by-fate : (P : List ℕ → Type 0) → P memory → (fateOf s memory pen ≡ Written → P put) → P (drawn s memory pen)
+  unfolding drawnBy drawn
+  by-fate P old new = by (fateOf s memory pen) refl
+    where
+      by : (f : Fate) → fateOf s memory pen ≡ f → P (drawnBy f s memory pen)
+      by Moved e = old
+      by Nulled e = old
+      by OutsideMap e = old
+      by OutsideMask e = old
+      by MaskZero e = old
+      by Compared e = old
+      by Written e = new e
+
+  pub not-written : (fateOf s memory pen ≡ Written → ⊥) → drawn s memory pen ≡ memory
+  not-written ne = by-fate (λ (m : List ℕ). m ≡ memory) refl (λ e. absurd (ne e))
+
+  pub length-drawn : length (drawn s memory pen) ≡ length memory
+  length-drawn = by-fate (λ (m : List ℕ). length m ≡ length memory) refl (λ e. length-put memory _ _ _ _)
+
+  -- every byte but the destination pixel's stays
+  pub drawn-elsewhere : (j : ℕ) → (j ≡ placeOf (s .destination) (column pen) (row pen) → ⊥)
+      → getD (drawn s memory pen) j 0 ≡ getD memory j 0
+  drawn-elsewhere j ne = by-fate (λ (m : List ℕ). getD m j 0 ≡ getD memory j 0) refl (λ e. byte-put-other memory _ _ _ _ j ne)
+
+  -- a byte of no pixel of the destination map stays
+  pub drawn-other : (j : ℕ) → ((x y : ℕ) → x ≤ s .destination .width → y ≤ s .destination .height → j ≡ placeOf (s .destination) x y → ⊥)
+      → getD (drawn s memory pen) j 0 ≡ getD memory j 0
+  drawn-other j ne =
+      by-fate (λ (m : List ℕ). getD m j 0 ≡ getD memory j 0) refl
+      (λ e. let h = on-map s pen (written-on-map e) in byte-put-other memory _ _ _ _ j (ne _ _ (h .0) (h .1)))
+
+  -- bytes stay bytes
+  pub drawn-bytes : ((j : ℕ) → getD memory j 0 < 256) → (j : ℕ) → getD (drawn s memory pen) j 0 < 256
+  drawn-bytes h = by-fate (λ (m : List ℕ). (j : ℕ) → getD m j 0 < 256) h (λ e. byte-put-lt memory _ _ _ _ h)

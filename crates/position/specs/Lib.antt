@@ -1,0 +1,4 @@
+pub mod Places
+pub mod Fates
+pub mod Drawn
+pub mod Beyond

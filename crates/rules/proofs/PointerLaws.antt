@@ -1,0 +1,76 @@
+-- A start leaves each used pointer in its map: a remainder by the map's size is at most the last column or row, and a pointer that lies there is its own remainder.
+use mathlib.Core.Path.{_≡_, refl}
+use mathlib.Core.Bool.{Bool, true, false, not, _||_}
+use mathlib.Core.List.{List}
+use Prim.Native.Nat.{ℕ, _+_, _%_, _≤_, _<_}
+use native.Mathlib.Nat.{mod-lt, mod-le, mod-eq-of-lt, lt-of-le-of-lt}
+use native.Mathlib.Omega.{arith}
+use borrow.Author.Tests.{le-leb, lt-ltb, leb-true, ltb-true}
+use Rattle.numbers.specs.Choose.{choose}
+use Rattle.pixels.specs.declared.Map.{Map}
+use Rattle.parts.specs.declared.shapes.Point.{Point}
+use Rattle.parts.specs.Reduced.{pointReduced}
+use Rattle.rules.specs.Operations.{sourceField, patternField, usesSource, usesPattern}
+use Rattle.rules.specs.Maps.{mapAt, isInside}
+use Rattle.rules.specs.Starts.{turned, sourceStarted, patternStarted}
+use Rattle.rules.specs.Going.{pointersHold}
+use Rattle.rules.proofs.Conjunctions.{and-l, and-r}
+
+-- ---- one coordinate
+
+remainder-le : (x last : ℕ) → x % (last + 1) ≤ last
+remainder-le x last = let h : x % (last + 1) < last + 1 = mod-lt x (omega arith) in omega arith
+
+remainder-self : (x last : ℕ) → x ≤ last → x % (last + 1) ≡ x
+remainder-self x last h = mod-eq-of-lt (omega arith)
+
+remainder-lt : (x last limit : ℕ) → x < limit → x % (last + 1) < limit
+remainder-lt x last limit = lt-of-le-of-lt (mod-le x (last + 1))
+
+-- ---- one pointer
+
+module _ (map : Map) (p : Point) where
+  pub inside-turned : isInside map (turned map p) ≡ true
+  unfolding isInside turned
+  inside-turned = rw (le-leb _ _ (remainder-le (p .x) (map .width)), le-leb _ _ (remainder-le (p .y) (map .height)))
+
+  pub turned-inside : isInside map p ≡ true → turned map p ≡ p
+  unfolding isInside turned
+  turned-inside h =
+      rw (remainder-self _ _ (leb-true (p .x) (map .width) (search (and-l, and-r))), remainder-self _ _ (leb-true (p .y) (map .height) (search (and-l, and-r))))
+
+  pub turned-reduced : pointReduced p ≡ true → pointReduced (turned map p) ≡ true
+  unfolding pointReduced turned
+  turned-reduced h =
+      rw (lt-ltb _ _ (remainder-lt (p .x) (map .width) 4096 (ltb-true _ _ (search (and-l, and-r)))), lt-ltb _ _ (remainder-lt (p .y) (map .height) 4096 (ltb-true _ _ (search (and-l, and-r)))))
+
+-- ---- the pointers at a start
+
+-- what is chosen where it is asked for holds where it is asked for
+chosen : {A : Type 0} (holds : A → Bool) (asked : Bool) (a b : A) → holds a ≡ true → (not asked || holds (choose asked a b)) ≡ true
+chosen holds true a b h = h
+chosen holds false a b h = refl
+
+-- what holds of both holds of the chosen one
+either : {A : Type 0} (holds : A → Bool) (asked : Bool) (a b : A) → holds a ≡ true → holds b ≡ true → holds (choose asked a b) ≡ true
+either holds true a b h k = h
+either holds false a b h k = k
+
+module _ (operations : ℕ) (maps : List Map) (p : Point) where
+  pub source-started-reduced : pointReduced p ≡ true → pointReduced (sourceStarted operations maps p) ≡ true
+  unfolding sourceStarted
+  source-started-reduced h =
+      either pointReduced (usesSource operations) _ p (turned-reduced (mapAt maps (sourceField operations)) p h) h
+
+  pub pattern-started-reduced : pointReduced p ≡ true → pointReduced (patternStarted operations maps p) ≡ true
+  unfolding patternStarted
+  pattern-started-reduced h =
+      either pointReduced (usesPattern operations) _ p (turned-reduced (mapAt maps (patternField operations)) p h) h
+
+  pub pointers-started : (q : Point) → pointersHold operations maps (sourceStarted operations maps p) (patternStarted operations maps q) ≡ true
+  unfolding pointersHold sourceStarted patternStarted
+  pointers-started q =
+      let source = mapAt maps (sourceField operations) in
+      let pattern = mapAt maps (patternField operations) in
+      rw (chosen (isInside source) (usesSource operations) _ p (inside-turned source p))
+      (chosen (isInside pattern) (usesPattern operations) _ q (inside-turned pattern q))

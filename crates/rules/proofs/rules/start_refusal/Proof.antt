@@ -1,0 +1,64 @@
+-- `start_refusal` gives the first refusal whose rule fails: each return has the tests before it held, and its own failed.
+use borrow.Author.Needs.{needs}
+use Rattle.rules.specs.Rules.{startRefusal}
+use Rattle.rules.proofs.rules.start_refusal.Statement.{statement}
+use Rattle.rules.proofs.rules.start_refusal.Tie as tie
+
+fields-hold-requires : tie.Need-fields-hold-requires
+fields-hold-requires c κs = search needs
+
+returns : tie.Need-returns
+unfolding startRefusal
+returns c = rw (← c .before .fields-hold .ensures, c .if1 .taken)
+
+mixes-hold-requires : tie.Need-mixes-hold-requires
+mixes-hold-requires c κs = search needs
+
+returns-2 : tie.Need-returns-2
+unfolding startRefusal
+returns-2 c =
+    let fields = c .before .before in
+    rw (← fields .before .fields-hold .ensures, fields .if1 .left, ← c .before .mixes-hold .ensures, c .if2 .taken)
+
+formats-hold-requires : tie.Need-formats-hold-requires
+formats-hold-requires c κs = search needs
+
+returns-3 : tie.Need-returns-3
+unfolding startRefusal
+returns-3 c =
+    let mixes = c .before .before in
+    let fields = mixes .before .before in
+    rw (← fields .before .fields-hold .ensures, fields .if1 .left, ← mixes .before .mixes-hold .ensures, mixes .if2 .left, ← c .before .formats-hold .ensures, c .if3 .taken)
+
+ends-hold-requires : tie.Need-ends-hold-requires
+ends-hold-requires c κs = search needs
+
+returns-4 : tie.Need-returns-4
+unfolding startRefusal
+returns-4 c =
+    let formats = c .before .before in
+    let mixes = formats .before .before in
+    let fields = mixes .before .before in
+    rw (← fields .before .fields-hold .ensures, fields .if1 .left, ← mixes .before .mixes-hold .ensures, mixes .if2 .left, ← formats .before .formats-hold .ensures, formats .if3 .left, ← c .before .ends-hold .ensures, c .if4 .taken)
+
+returns-5 : tie.Need-returns-5
+unfolding startRefusal
+returns-5 c =
+    let formats = c .before .before in
+    let mixes = formats .before .before in
+    let fields = mixes .before .before in
+    rw (← fields .before .fields-hold .ensures, fields .if1 .left, ← mixes .before .mixes-hold .ensures, mixes .if2 .left, ← formats .before .formats-hold .ensures, formats .if3 .left, ← c .before .ends-hold .ensures, c .if4 .left)
+
+pub start-refusal-spec : {M : Type 1} → statement M
+start-refusal-spec =
+    tie.close
+    (tie.spec
+    fields-hold-requires
+    returns
+    mixes-hold-requires
+    returns-2
+    formats-hold-requires
+    returns-3
+    ends-hold-requires
+    returns-4
+    returns-5)

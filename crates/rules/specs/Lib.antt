@@ -1,0 +1,6 @@
+pub mod Operations
+pub mod Maps
+pub mod Rules
+pub mod Starts
+pub mod Going
+pub mod Totals

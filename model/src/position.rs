@@ -1,0 +1,171 @@
+//! One position (01, One position).
+
+use crate::codes::{self, Code};
+use crate::drawing::Drawing;
+use crate::map::Map;
+use crate::mixes;
+use crate::operations::{self, Operations};
+use crate::pixels;
+use crate::refusals::Refusal;
+use crate::registers::Registers;
+
+/// Draws the position at the counters; all its reads come before its write.
+///
+/// Refusal 11, a byte beyond the memory, leaves the memory.
+pub fn draw(registers: &Registers, drawing: &Drawing, memory: &mut [u8]) -> Result<(), Refusal> {
+    let operations = registers.fields();
+    let source = source_pixel(registers, &operations, memory)?;
+    let pattern = pattern_pixel(registers, &operations, source, memory)?;
+    let (mix, colour) = picked(registers, &operations, pattern, source);
+
+    let map = registers.map(operations.destination);
+    let x = i64::from(registers.destination_x);
+    let y = i64::from(registers.destination_y);
+    let Some(place) = map.pixel_at(x, y) else {
+        return Ok(());
+    };
+    if !mask_allows(registers, &operations, (x, y), memory)? {
+        return Ok(());
+    }
+    let destination = read(map, place, memory)?;
+    if compare_holds(registers, map, destination)
+        || is_nulled(registers, drawing)
+        || is_move_code(registers, drawing)
+    {
+        return Ok(());
+    }
+    let planes = registers.plane_mask;
+    let new = mixes::mix(mix, map.bits(), planes, colour, destination);
+    write(map, place, memory, new);
+    Ok(())
+}
+
+/// Pattern 1 picks foreground source and mix, 0 background: the mix and what it takes as S, of which the low bits count.
+fn picked(registers: &Registers, operations: &Operations, pattern: u32, source: u32) -> (u32, u32) {
+    let (mix, field, colour) = if pattern == 1 {
+        (
+            registers.foreground_mix,
+            operations.foreground_source,
+            registers.foreground_colour,
+        )
+    } else {
+        (
+            registers.background_mix,
+            operations.background_source,
+            registers.background_colour,
+        )
+    };
+    let is_source_map = field == operations::SOURCE_MAP;
+    (u32::from(mix), if is_source_map { source } else { colour })
+}
+
+/// The source pixel, or 0 if the source map is not used.
+fn source_pixel(
+    registers: &Registers,
+    operations: &Operations,
+    memory: &[u8],
+) -> Result<u32, Refusal> {
+    if !operations.uses_source() {
+        return Ok(0);
+    }
+    let place = (registers.source_x.into(), registers.source_y.into());
+    read(registers.map(operations.source), place, memory)
+}
+
+/// The pattern pixel: code 8 is always 1, and code 9 is 1 where the source pixel is not 0.
+fn pattern_pixel(
+    registers: &Registers,
+    operations: &Operations,
+    source: u32,
+    memory: &[u8],
+) -> Result<u32, Refusal> {
+    match operations.pattern {
+        operations::PATTERN_FOREGROUND => Ok(1),
+        operations::PATTERN_FROM_SOURCE => Ok(u32::from(source != 0)),
+        map => {
+            let place = (registers.pattern_x.into(), registers.pattern_y.into());
+            read(registers.map(map), place, memory)
+        }
+    }
+}
+
+/// Modes 01 and 10 keep what is outside the mask boundary, edges being inside, and mode 10 what is on a 0 mask pixel.
+fn mask_allows(
+    registers: &Registers,
+    operations: &Operations,
+    (x, y): (i64, i64),
+    memory: &[u8],
+) -> Result<bool, Refusal> {
+    let map = registers.mask_map();
+    // docs/DECISIONS.md: the mask pixel is destination - origin.
+    let pixel = map.pixel_at(
+        x - i64::from(registers.mask_origin_x),
+        y - i64::from(registers.mask_origin_y),
+    );
+    match operations.mask {
+        operations::MASK_BOUNDARY => Ok(pixel.is_some()),
+        operations::MASK_ENABLED => match pixel {
+            Some(place) => Ok(read(map, place, memory)? == 1),
+            None => Ok(false),
+        },
+        _ => Ok(true),
+    }
+}
+
+/// Whether the compare condition is true of the destination.
+fn compare_holds(registers: &Registers, map: &Map, destination: u32) -> bool {
+    mixes::holds(
+        u32::from(registers.condition),
+        map.bits(),
+        registers.plane_mask,
+        destination,
+        registers.compare_value,
+    )
+}
+
+/// Whether the position is of a move code.
+fn is_move_code(registers: &Registers, drawing: &Drawing) -> bool {
+    current_code(registers, drawing).is_some_and(|code| !code.draws)
+}
+
+/// 01, The functions: first-null and last-null hold for each line and each code, and a block ignores the drawing mode.
+fn is_nulled(registers: &Registers, drawing: &Drawing) -> bool {
+    let (done, last) = match *drawing {
+        Drawing::Line { done } => (done, registers.dimension_1),
+        Drawing::Codes { done, .. } => match current_code(registers, drawing) {
+            Some(code) => (done, code.steps),
+            None => return false,
+        },
+        Drawing::Block { .. } | Drawing::Nothing { .. } => return false,
+    };
+    match registers.fields().drawing_mode {
+        operations::FIRST_NULL => done == 0,
+        operations::LAST_NULL => done == last,
+        _ => false,
+    }
+}
+
+/// The code that a run of codes is at.
+fn current_code(registers: &Registers, drawing: &Drawing) -> Option<Code> {
+    match *drawing {
+        Drawing::Codes { count, code, .. } => {
+            codes::byte(registers.steps, count, code).map(Code::of)
+        }
+        _ => None,
+    }
+}
+
+/// The pixel of a map, or refusal 11 where it lies beyond the memory.
+fn read(map: &Map, (x, y): (u32, u32), memory: &[u8]) -> Result<u32, Refusal> {
+    let (base, row_length, bits) = (map.base, map.row_length(), map.bits());
+    if pixels::lies_within(memory.len(), base, row_length, bits, x, y) {
+        Ok(pixels::get(memory, base, row_length, bits, x, y))
+    } else {
+        Err(Refusal::Reach)
+    }
+}
+
+/// Makes the pixel of a map the value.
+fn write(map: &Map, (x, y): (u32, u32), memory: &mut [u8], value: u32) {
+    pixels::put(memory, map.base, map.row_length(), map.bits(), x, y, value);
+}

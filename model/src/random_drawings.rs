@@ -1,0 +1,243 @@
+//! Random drawings that the start rules accept, and random damage to a record.
+
+use crate::codes;
+use crate::coprocessor::Coprocessor;
+use crate::drawing::Drawing;
+use crate::operations::{self, Kind, Operations};
+use crate::pixels;
+use crate::random::Random;
+use crate::registers::{LISTED, STEPS_START};
+
+/// The functions that draw.
+pub const FUNCTIONS: [u32; 6] = [
+    operations::CODES_READ,
+    operations::LINE_READ,
+    operations::CODES_WRITE,
+    operations::LINE_WRITE,
+    operations::PXBLT,
+    operations::INVERTING_PXBLT,
+];
+
+/// The most pixels along a map's side.
+const MAP_SIDE: u32 = 12;
+
+/// A memory that holds a map of that side with 8 bits.
+const LEAST_SIZE: u32 = MAP_SIDE * MAP_SIDE;
+
+/// A write: offset, length and value.
+pub type Write = (u32, u32, u32);
+
+/// A drawing as a memory and the writes that set it up, of which the last starts it.
+#[derive(Clone, Debug)]
+pub struct RandomDrawing {
+    /// The memory before the drawing, whose length is the state's size.
+    pub memory: Vec<u8>,
+    /// The writes to a fresh state, each of which is accepted.
+    pub writes: Vec<Write>,
+}
+
+/// A random drawing of a function: small maps that may overlap, with every field the start rules accept.
+pub fn drawing(random: &mut Random, function: u32) -> RandomDrawing {
+    let size = LEAST_SIZE + random.below(300);
+    let memory = (0..size).map(|_| random.word() as u8).collect();
+    let operations = random_operations(random, function);
+    let mut writes = map_writes(random, &Operations::of(operations), size);
+    writes.extend(term_writes(random));
+    writes.extend(pixel_writes(random));
+    writes.extend(place_writes(random));
+    writes.push((0x7C, 4, operations));
+    if Operations::of(operations).kind() == Some(Kind::Codes) {
+        writes.push(code_write(random));
+    }
+    RandomDrawing { memory, writes }
+}
+
+/// The state and memory of a drawing just started.
+pub fn started(drawing: &RandomDrawing) -> (Coprocessor, Vec<u8>) {
+    let (mut coprocessor, _) = Coprocessor::fresh(drawing.memory.len() as u32);
+    for (offset, length, value) in &drawing.writes {
+        coprocessor.write(*offset, *length, *value);
+    }
+    (coprocessor, drawing.memory.clone())
+}
+
+/// Puts random values, not reduced, into one register, the size or the drawing in hand of the record.
+pub fn damage(random: &mut Random, coprocessor: &mut Coprocessor) {
+    match random.below(8) {
+        0 => coprocessor.size = random.word() >> random.below(32),
+        1 | 2 => coprocessor.drawing = any_drawing(random),
+        _ => {
+            let map = random.below(4) as usize;
+            let (first, bytes, _) = LISTED[random.below(LISTED.len() as u32) as usize];
+            for offset in first..first + bytes {
+                let byte = random.word() as u8;
+                coprocessor.registers.take_byte(map, offset, byte);
+            }
+        }
+    }
+}
+
+/// Any drawing in hand, with small or large counters.
+fn any_drawing(random: &mut Random) -> Drawing {
+    let limit = random.pick(&[2, 5, 20, 65_536]);
+    let mut counter = || random.below(limit) as u16;
+    let (first, second) = (counter(), counter());
+    match random.below(4) {
+        0 => Drawing::Nothing {
+            stopped: first % 2 == 1,
+        },
+        1 => Drawing::Line { done: first },
+        2 => Drawing::Codes {
+            count: random.below(6) as u8,
+            code: first,
+            done: second,
+        },
+        _ => Drawing::Block {
+            column: first,
+            row: second,
+        },
+    }
+}
+
+/// Pixel operations of a function; what refusal 5 does not look at may hold anything.
+fn random_operations(random: &mut Random, function: u32) -> u32 {
+    let sources = [operations::COLOUR, operations::SOURCE_MAP];
+    let fields = function << 24
+        | random.pick(&sources) << 30
+        | random.pick(&sources) << 28
+        | random.pick(&[1, 2, 3]) << 16
+        | random.pick(&[1, 2, 3, 8, 9]) << 12
+        | random.below(3) << 6
+        | random.below(8);
+    let unused = random.word() & 0x0000_0F08;
+    let source = if Operations::of(fields).uses_source() {
+        random.pick(&[1, 2, 3])
+    } else {
+        random.below(16)
+    };
+    let drawing_mode = if Operations::of(fields).kind() == Some(Kind::Block) {
+        random.below(4)
+    } else {
+        random.below(3)
+    };
+    fields | unused | source << 20 | drawing_mode << 4
+}
+
+/// Writes for four small maps; those used have formats that go together and lie in the memory.
+fn map_writes(random: &mut Random, operations: &Operations, size: u32) -> Vec<Write> {
+    let mut writes = Vec::new();
+    for (index, format) in (0..4).zip(map_formats(random, operations)) {
+        let (width, height) = (side_register(random), side_register(random));
+        let needed = pixels::bytes_needed(width + 1, height + 1, 1 << format) as u32;
+        let base = random.below(size - needed + 1);
+        let (base, format) = if is_used(operations, index) || random.once_in(2) {
+            (base, format)
+        } else {
+            (random.word(), random.below(16))
+        };
+        writes.push((0x12, 1, index));
+        writes.push((0x14, 4, base));
+        writes.push((0x18, 4, height << 16 | width));
+        writes.push((0x1C, 1, format));
+    }
+    writes.push((0x12, 1, random.below(4)));
+    writes
+}
+
+/// A width or height, more often long than short.
+fn side_register(random: &mut Random) -> u32 {
+    random.below(MAP_SIDE).max(random.below(MAP_SIDE))
+}
+
+/// Whether the operations use the map of an index.
+fn is_used(operations: &Operations, index: u32) -> bool {
+    operations.destination == index
+        || (operations.uses_source() && operations.source == index)
+        || (operations.uses_pattern() && operations.pattern == index)
+        || (operations.uses_mask() && index == 0)
+}
+
+/// Formats of M, A, B and C: source as colour has the destination's, and the mask and pattern have 1 bit.
+fn map_formats(random: &mut Random, operations: &Operations) -> [u32; 4] {
+    let mut formats = [0; 4];
+    for format in &mut formats[1..] {
+        *format = random.below(4);
+    }
+    let [pattern, destination, source] = [
+        operations.pattern,
+        operations.destination,
+        operations.source,
+    ]
+    .map(|map| map as usize);
+    if operations.uses_source_as_colour() {
+        formats[source] = formats[destination];
+    }
+    if operations.uses_pattern() {
+        let is_shared = pattern == destination || pattern == source;
+        if is_shared && operations.uses_source_as_colour() {
+            formats[source] = 0;
+            formats[destination] = 0;
+        }
+        formats[pattern] = 0;
+    }
+    formats
+}
+
+/// Writes of E, K1, K2 and dimensions.
+fn term_writes(random: &mut Random) -> Vec<Write> {
+    let reach = random.pick(&[8, 40, 8_191]) as i32;
+    let mut writes: Vec<Write> = [0x20, 0x24, 0x28]
+        .into_iter()
+        .map(|offset| (offset, 4, random.between(-reach, reach) as u32))
+        .collect();
+    writes.push((0x60, 2, random.below(20)));
+    writes.push((0x62, 2, random.below(8)));
+    writes
+}
+
+/// Writes of mixes, compare, plane mask, carry mask and colours.
+fn pixel_writes(random: &mut Random) -> Vec<Write> {
+    let (any_condition, any_planes) = (random.below(8), random.word());
+    let mut writes = vec![
+        (0x48, 1, random.below(0x16)),
+        (0x49, 1, random.below(0x16)),
+        (0x4A, 1, random.pick(&[4, 4, 4, any_condition])),
+        (0x50, 4, random.pick(&[u32::MAX, u32::MAX, any_planes])),
+    ];
+    for offset in [0x4C, 0x54, 0x58, 0x5C] {
+        writes.push((offset, 4, random.word()));
+    }
+    writes
+}
+
+/// Writes of the mask origin and of the source, pattern and destination pointers.
+fn place_writes(random: &mut Random) -> Vec<Write> {
+    let mut writes = vec![(0x6C, 2, random.below(3)), (0x6E, 2, random.below(3))];
+    for offset in [0x70, 0x72, 0x74, 0x76] {
+        let limit = random.pick(&[12, 4_096]);
+        writes.push((offset, 2, random.below(limit)));
+    }
+    for offset in [0x78, 0x7A] {
+        let pointer = match random.below(32) {
+            0 => random.between(6_138, 6_143),
+            1 => random.between(-2_048, -2_043),
+            _ => random.between(-1, 6),
+        };
+        writes.push((offset, 2, pointer as u32));
+    }
+    writes
+}
+
+/// A write of 1, 2 or 4 codes, most of which draw.
+fn code_write(random: &mut Random) -> Write {
+    let length = random.pick(&[1, 2, 4]);
+    let codes = (0..4).fold(0, |codes, _| {
+        let code = match random.below(12) {
+            0 => u32::from(codes::STOP),
+            1 | 2 => random.below(0x100),
+            _ => random.below(0x100) | 0x10,
+        };
+        codes << 8 | code
+    });
+    (STEPS_START + 1 - length, length, codes)
+}
