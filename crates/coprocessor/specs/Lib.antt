@@ -3,7 +3,4 @@ pub mod Valid
 pub mod Reads
 pub mod Writes
 pub mod Runs
-pub mod Held
-pub mod Totals
-pub mod ReadBack
 pub mod Images

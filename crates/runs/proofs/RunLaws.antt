@@ -164,6 +164,19 @@ reached s pen memory (suc n) =
           ⊎-elim (λ (all : u .done ≡ n). inl (omega arith)) (λ idle. absurd (false≢true (sym idle ∙ going))) (held .1 near),
     ))
 
+-- a run is that of exactly the positions that it did, whatever more it was allowed
+pub after-done : (s : Setup) (pen : Pen) (memory : List ℕ) (n : ℕ) → after s n (begun pen memory) .beyond ≡ false
+    → after s (after s n (begun pen memory) .done) (begun pen memory) ≡ after s n (begun pen memory)
+unfolding after begun positioned ended
+after-done s pen memory zero = λ near. refl
+after-done s pen memory (suc n) =
+    let u : Run = after s n (begun pen memory) in
+    by-stepped s u (λ (v : Run). v .beyond ≡ false → after s (v .done) (begun pen memory) ≡ v)
+    (λ idle near. after-done s pen memory n near)
+    (λ going far near. absurd (false≢true (sym near)))
+    (λ going within near.
+    ⊎-elim (λ (all : u .done ≡ n). ap (λ k. after s k (begun pen memory)) (let more : u .done + 1 ≡ suc n = omega arith in more) ∙ stepped-on s u going within) (λ idle. absurd (false≢true (sym idle ∙ going))) (reached s pen memory n .1 near))
+
 module _ (operations : ℕ) (s : Setup) where
   abbrev holds : Pen → Bool
   holds pen = countersHold operations (s .dimensions) (s .steps) (pen .drawing)

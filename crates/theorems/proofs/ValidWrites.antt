@@ -16,12 +16,12 @@ use Rattle.rules.specs.Maps.{mapAt}
 use Rattle.rules.proofs.Conjunctions.{and-l, and-r}
 use Rattle.rules.proofs.CounterLaws.{counters-started}
 use Rattle.rules.proofs.PointerLaws.{source-started-reduced, pattern-started-reduced, pointers-started}
 use Rattle.coprocessor.specs.declared.Coprocessor.{Coprocessor}
 use Rattle.coprocessor.specs.Fresh.{sizeHolds}
 use Rattle.coprocessor.specs.Valid.{startRefusalOf, mapsReduced, pointersReduced, reducedOf, goesOn, validOf}
 use Rattle.coprocessor.specs.Writes.{merged, started, writeAnswer}
-use Rattle.coprocessor.proofs.MapsLaws.{map-reduced, map-either}
-use Rattle.coprocessor.proofs.AcceptedWrites.{accepted-allowed, by-write, start-draws, start-rules}
+use Rattle.theorems.proofs.MapsLaws.{map-reduced, map-either}
+use Rattle.theorems.proofs.AcceptedWrites.{accepted-allowed, by-write, start-draws, start-rules}
 
 -- ---- the maps
 

@@ -9,16 +9,16 @@ use borrow.Author.Tests.{eqb-true, eq-eqb}
 use Rattle.numbers.specs.Choose.{choose}
 use Rattle.parts.specs.declared.refusals.Refusal.the-variants.{Accepted, Size, Image, Beyond}
 use Rattle.parts.specs.Refusals.{isAccepted}
-use Rattle.rules.specs.Totals.{leftOf}
 use Rattle.moves.specs.declared.Pen.{Pen}
 use Rattle.runs.specs.Runs.{Run, begun, after}
-use Rattle.runs.proofs.RunLaws.{length-after, run-add, done-after}
+use Rattle.runs.proofs.RunLaws.{length-after, run-add, left-after, done-after}
 use Rattle.coprocessor.specs.declared.Coprocessor.{Coprocessor}
 use Rattle.coprocessor.specs.declared.Drawn.{Drawn}
 use Rattle.coprocessor.specs.Valid.{validOf}
 use Rattle.coprocessor.specs.Runs.{setupOf, penOf, withPen, ranOf, runRefusal, runAnswer, runMemory}
 use Rattle.coprocessor.proofs.WriteLaws.{accepted-test}
-use Rattle.coprocessor.proofs.RunValid.{setup-kept, pen-kept, with-pen-twice, valid-counters, ran-valid}
+use Rattle.theorems.specs.Totals.{leftIn}
+use Rattle.theorems.proofs.RunValid.{setup-kept, pen-kept, with-pen-twice, valid-counters, ran-valid}
 
 -- ---- a refused run
 
@@ -71,20 +71,28 @@ accepted-again c memory n accepted =
 -- ---- the positions that a run does
 
 pub run-done : (c : Coprocessor) (memory : List ℕ) (n : ℕ) → runRefusal c memory ≡ Accepted → ranOf c memory n .beyond ≡ false
-    → runAnswer c memory n .done ≡ min n (leftOf (c .dimensions) (c .steps) (c .drawing))
+    → runAnswer c memory n .done ≡ min n (leftIn c)
 unfolding ranOf setupOf penOf
 run-done c memory n accepted near =
     ap (λ (d : Drawn). d .done) (run-accepted c memory n accepted .1)
     ∙ done-after (c .operations) (setupOf c) (penOf c) memory n (valid-counters c (accepted-valid c memory accepted)) near
 
+-- those left fall by those done
+pub run-left : (c : Coprocessor) (memory : List ℕ) (n : ℕ) → runRefusal c memory ≡ Accepted → ranOf c memory n .beyond ≡ false
+    → leftIn (runAnswer c memory n .coprocessor) + runAnswer c memory n .done ≡ leftIn c
+unfolding ranOf setupOf penOf withPen
+run-left c memory n accepted near =
+    ap (λ (d : Drawn). leftIn (d .coprocessor) + d .done) (run-accepted c memory n accepted .1)
+    ∙ left-after (c .operations) (setupOf c) (penOf c) memory n (valid-counters c (accepted-valid c memory accepted)) near
+
 -- the same, from the answer
 pub run-done-answered : (c : Coprocessor) (memory : List ℕ) (n : ℕ) → runAnswer c memory n .refusal ≡ Accepted
-    → runAnswer c memory n .done ≡ min n (leftOf (c .dimensions) (c .steps) (c .drawing))
+    → runAnswer c memory n .done ≡ min n (leftIn c)
 unfolding runAnswer
 run-done-answered c memory n answered = by (isAccepted (runRefusal c memory)) (ranOf c memory n .beyond) refl refl
   where
     by : (t far : Bool) → isAccepted (runRefusal c memory) ≡ t → ranOf c memory n .beyond ≡ far
-        → runAnswer c memory n .done ≡ min n (leftOf (c .dimensions) (c .steps) (c .drawing))
+        → runAnswer c memory n .done ≡ min n (leftIn c)
     by true false e f = run-done c memory n (refusal-none c memory e) f
     by true true e f = absurd (false≢true (ap isAccepted (simp (e, f) at answered)))
     by false far e f = absurd (false≢true (sym e ∙ ap isAccepted (simp e at answered)))

@@ -10,10 +10,10 @@ use Rattle.parts.specs.Latches.{touched}
 use Rattle.parts.specs.Registers.{placed, listed}
 use Rattle.rules.specs.Operations.{isLine, isCodes, isBlock, draws}
 use borrow.Author.Tests.{not-true, not-false}
 use Rattle.coprocessor.specs.declared.Coprocessor.{Coprocessor}
 use Rattle.coprocessor.specs.Valid.{startRefusalOf, validOf}
 use Rattle.coprocessor.specs.Writes.{merged, startsBy, started, startedRefusal, storeRefusal, writeRefusal, settledBy, writeAnswer}
-use Rattle.coprocessor.proofs.Choices.{by-test}
+use Rattle.theorems.proofs.Choices.{by-test}
 
 -- a refusal that comes first is not there where the whole is accepted, and the rest is accepted
 passed : (t : Bool) (first rest : Refusal) → (t ≡ true → isAccepted first ≡ false) → isAccepted (choose t first rest) ≡ true

@@ -9,12 +9,12 @@ use Rattle.pixels.specs.declared.Map.{Map}
 use Rattle.parts.specs.Shapes.{mapTaken, inkTaken, compareTaken}
 use Rattle.parts.proofs.LatchLaws.{taken-lt}
 use Rattle.rules.specs.Maps.{freshMap, mapAt}
 use Rattle.coprocessor.specs.declared.Coprocessor.{Coprocessor}
 use Rattle.coprocessor.specs.Fresh.{freshOf}
-use Rattle.coprocessor.specs.Held.{Held}
+use Rattle.theorems.specs.Held.{Held}
 use Rattle.coprocessor.specs.Writes.{merged, started, writeAnswer}
-use Rattle.coprocessor.proofs.AcceptedWrites.{by-write}
-use Rattle.coprocessor.proofs.MapsLaws.{map-either}
+use Rattle.theorems.proofs.AcceptedWrites.{by-write}
+use Rattle.theorems.proofs.MapsLaws.{map-either}
 
 pub held-fresh : (size : ℕ) → Held (freshOf size)
 unfolding freshOf mapAt

@@ -22,15 +22,15 @@ use Rattle.parts.specs.Reduced.{mapReduced, pointReduced, spotReduced, termRedu
 use Rattle.parts.specs.declared.refusals.Refusal.the-variants.{Accepted}
 use Rattle.rules.specs.Maps.{mapAt}
 use Rattle.rules.proofs.Conjunctions.{and-l, and-r}
 use Rattle.coprocessor.specs.declared.Coprocessor.{Coprocessor}
 use Rattle.coprocessor.specs.Valid.{validOf}
 use Rattle.coprocessor.specs.Reads.{pointWord, spotWord, inksWord, wordsOf}
 use Rattle.coprocessor.specs.Images.{countersOf, drawingOf, laid, mapFields, fieldsBy, fieldsOf, imageOf, at, mapFrom, pointFrom, spotFrom, countersFrom, loaded, loads, sameCounters, saves, saved, loadAnswer}
-use Rattle.coprocessor.specs.Held.{Held}
+use Rattle.theorems.specs.Held.{Held}
 use Rattle.numbers.proofs.BytePartLaws.{number-low, number-part}
 use Rattle.numbers.proofs.SignedBytes.{signed-residue}
-use Rattle.coprocessor.proofs.ValidFields as valid
-use Rattle.coprocessor.proofs.DrawingLaws.{counters-fit, drawing-counted, counters-same}
+use Rattle.theorems.proofs.ValidFields as valid
+use Rattle.theorems.proofs.DrawingLaws.{counters-fit, drawing-counted, counters-same}
 
 pub length-image : (c : Coprocessor) → length (imageOf c) ≡ 115
 unfolding imageOf laid fieldsOf fieldsBy mapFields le

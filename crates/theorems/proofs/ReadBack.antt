@@ -17,16 +17,16 @@ use Rattle.parts.specs.Registers.{registers}
 use Rattle.parts.specs.Shapes.{mapTaken, termsTaken, inkTaken, compareTaken, pointTaken, spotTaken}
 use Rattle.parts.proofs.LatchLaws.{low-untouched}
 use Rattle.rules.specs.Maps.{mapAt}
 use Rattle.coprocessor.specs.declared.Coprocessor.{Coprocessor}
-use Rattle.coprocessor.specs.Held.{Held}
+use Rattle.theorems.specs.Held.{Held}
 use Rattle.coprocessor.specs.Writes.{merged, startsBy, settledBy, writeRefusal, writeAnswer}
-use Rattle.coprocessor.specs.ReadBack.{registerAt, shown, storedOf, isTwelve, isTerm, isDestination, reducedAs, shownAfter}
-use Rattle.coprocessor.proofs.Choices.{through}
-use Rattle.coprocessor.proofs.AcceptedWrites.{accepted-allowed}
-use Rattle.coprocessor.proofs.MapsLaws.{map-selected}
-use Rattle.coprocessor.proofs.ValidWrites.{write-valid}
-use Rattle.coprocessor.proofs.HeldWrites.{held-written}
-use Rattle.coprocessor.proofs.StoredValues.{value-stored}
+use Rattle.theorems.specs.ReadBack.{registerAt, shown, storedOf, isTwelve, isTerm, isDestination, reducedAs, shownAfter}
+use Rattle.theorems.proofs.Choices.{through}
+use Rattle.theorems.proofs.AcceptedWrites.{accepted-allowed}
+use Rattle.theorems.proofs.MapsLaws.{map-selected}
+use Rattle.theorems.proofs.ValidWrites.{write-valid}
+use Rattle.theorems.proofs.HeldWrites.{held-written}
+use Rattle.theorems.proofs.StoredValues.{value-stored}
 
 -- what stands at a place that both lists have
 getD-zip : {A B C : Type 0} (f : A → B → C) (l : List A) (m : List B) (i : ℕ) (a : A) (b : B) (c : C) → i < length l → i < length m

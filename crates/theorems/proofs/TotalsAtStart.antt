@@ -14,10 +14,10 @@ use Rattle.rules.specs.Going.{countersHold}
 use Rattle.rules.specs.Totals.{leftOf}
 use Rattle.rules.proofs.Conjunctions.{and-l, and-r}
 use Rattle.rules.proofs.TotalLaws.{left-started, left-some, left-idle}
 use Rattle.coprocessor.specs.declared.Coprocessor.{Coprocessor}
 use Rattle.coprocessor.specs.Valid.{goesOn, validOf}
 use Rattle.coprocessor.specs.Writes.{merged, startsBy, started, settledBy, writeRefusal, writeAnswer}
-use Rattle.coprocessor.specs.Totals.{totalIn, leftIn}
+use Rattle.theorems.specs.Totals.{totalIn, leftIn}
 
 pub start-total : (w : Write) (c : Coprocessor) → isAccepted (writeRefusal w c) ≡ true → startsBy w (merged w c) ≡ true
     → leftIn (writeAnswer w c .coprocessor) ≡ totalIn (writeAnswer w c .coprocessor)

@@ -22,12 +22,12 @@ use Rattle.parts.specs.Registers.{registers}
 use Rattle.parts.specs.Reduced.{mapReduced, compareReduced, pointReduced}
 use Rattle.rules.specs.Maps.{mapAt}
 use Rattle.rules.proofs.Conjunctions.{and-l, and-r}
 use Rattle.coprocessor.specs.declared.Coprocessor.{Coprocessor}
 use Rattle.coprocessor.specs.Valid.{pointersReduced, reducedOf, validOf}
 use Rattle.coprocessor.specs.Reads.{pointWord, spotWord, sizeWord, inksWord, wordsOf, valueAt}
-use Rattle.coprocessor.specs.Held.{Held}
-use Rattle.coprocessor.specs.ReadBack.{registerAt, shown, storedOf}
-use Rattle.coprocessor.proofs.MapsLaws.{map-reduced}
+use Rattle.theorems.specs.Held.{Held}
+use Rattle.theorems.specs.ReadBack.{registerAt, shown, storedOf}
+use Rattle.theorems.proofs.MapsLaws.{map-reduced}
 
 -- ---- the parts of a word
 

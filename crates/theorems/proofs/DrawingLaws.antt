@@ -15,10 +15,10 @@ use Rattle.rules.specs.Operations.{isLine, isCodes, isBlock, functionOf}
 use Rattle.rules.specs.Going.{countersHold}
 use Rattle.rules.proofs.Conjunctions.{and-l, and-r}
 use Rattle.rules.proofs.CounterLaws.{line-held, codes-held, block-held}
 use Rattle.coprocessor.specs.declared.images.Counters.{Counters}
 use Rattle.coprocessor.specs.Images.{countersOf, drawingOf, sameCounters}
 use Rattle.coprocessor.proofs.PlaceLaws.{or-cases, lengths}
-use Rattle.coprocessor.proofs.ValidFields.{point-bounds}
+use Rattle.theorems.proofs.ValidFields.{point-bounds}
 
 -- ---- the three kinds of functions
 

@@ -17,17 +17,17 @@ use Rattle.parts.specs.Shapes.{mapTaken, termsTaken, inkTaken, compareTaken, po
 use Rattle.parts.proofs.Every.{every, every-at}
 use Rattle.rules.specs.Maps.{freshMap, mapAt}
 use Rattle.rules.proofs.Conjunctions.{and-l, and-r}
 use Rattle.coprocessor.specs.declared.Coprocessor.{Coprocessor}
 use Rattle.coprocessor.specs.Valid.{validOf}
-use Rattle.coprocessor.specs.Held.{Held}
+use Rattle.theorems.specs.Held.{Held}
 use Rattle.coprocessor.specs.Writes.{merged, startsBy, started, settledBy, writeRefusal, writeAnswer}
-use Rattle.coprocessor.specs.ReadBack.{registerAt, shown, storedOf, selecting, Selected}
+use Rattle.theorems.specs.ReadBack.{registerAt, shown, storedOf, selecting, Selected}
 use Rattle.coprocessor.proofs.PlaceLaws.{placed-known}
-use Rattle.coprocessor.proofs.AcceptedWrites.{accepted-allowed, by-write}
-use Rattle.coprocessor.proofs.MapsLaws.{map-other}
-use Rattle.coprocessor.proofs.ValidWrites.{write-valid}
-use Rattle.coprocessor.proofs.HeldWrites.{held-written}
-use Rattle.coprocessor.proofs.StoredValues.{value-stored}
+use Rattle.theorems.proofs.AcceptedWrites.{accepted-allowed, by-write}
+use Rattle.theorems.proofs.MapsLaws.{map-other}
+use Rattle.theorems.proofs.ValidWrites.{write-valid}
+use Rattle.theorems.proofs.HeldWrites.{held-written}
+use Rattle.theorems.proofs.StoredValues.{value-stored}
 
 -- ---- a write of the index
 

@@ -6,12 +6,12 @@ use Rattle.numbers.specs.declared.bytes.Write.{Write}
 use Rattle.parts.specs.Refusals.{isAccepted}
 use Rattle.parts.specs.Reduced.{mapReduced, termReduced, termsReduced, compareReduced, pointReduced, destinationReduced, spotReduced}
 use Rattle.rules.specs.Maps.{mapAt}
 use Rattle.coprocessor.specs.declared.Coprocessor.{Coprocessor}
 use Rattle.coprocessor.specs.declared.Written.{Written}
 use Rattle.coprocessor.specs.Fresh.{sizeHolds, freshOf, freshAnswer}
 use Rattle.coprocessor.specs.Valid.{mapsReduced, pointersReduced, reducedOf, goesOn, validOf}
 use Rattle.coprocessor.specs.Writes.{writeRefusal, writeAnswer}
-use Rattle.coprocessor.proofs.Choices.{by-test}
+use Rattle.theorems.proofs.Choices.{by-test}
 
 -- 01, Numbers a call answers with: a refused write stores nothing, not even the register
 pub write-refused : (w : Write) (c : Coprocessor) → isAccepted (writeRefusal w c) ≡ false → writeAnswer w c .coprocessor ≡ c

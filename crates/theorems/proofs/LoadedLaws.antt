@@ -15,11 +15,11 @@ use Rattle.numbers.specs.Circles.{residue}
 use Rattle.pixels.specs.declared.Map.{Map}
 use Rattle.rules.specs.Maps.{freshMap, mapAt}
 use Rattle.rules.proofs.Conjunctions.{and-l, and-r}
 use Rattle.coprocessor.specs.Valid.{validOf}
 use Rattle.coprocessor.specs.Reads.{pointWord, spotWord, inksWord, wordsOf}
 use Rattle.coprocessor.specs.Images.{countersOf, Field, _bytes_, laid, mapFields, fieldsBy, fieldsOf, imageOf, at, mapFrom, pointFrom, spotFrom, countersFrom, loaded, loads, saves, saved}
-use Rattle.coprocessor.specs.Held.{Held}
-use Rattle.coprocessor.proofs.DrawingLaws.{same-counters}
+use Rattle.theorems.specs.Held.{Held}
+use Rattle.theorems.proofs.DrawingLaws.{same-counters}
 use Rattle.numbers.proofs.BytePartLaws.{number-lt, number-split, le-part}
 use Rattle.numbers.proofs.SignedBytes.{residue-signed}
 

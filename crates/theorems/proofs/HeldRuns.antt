@@ -1,0 +1,32 @@
+-- A run keeps the bounds of a record's fields: it changes none of them.
+use mathlib.Core.List.{List}
+use Prim.Native.Nat.{ℕ}
+use Rattle.parts.specs.Refusals.{isAccepted}
+use Rattle.moves.specs.declared.Pen.{Pen}
+use Rattle.coprocessor.specs.declared.Coprocessor.{Coprocessor}
+use Rattle.coprocessor.specs.declared.Drawn.{Drawn}
+use Rattle.coprocessor.specs.Runs.{withPen, runRefusal, runAnswer}
+use Rattle.theorems.specs.Held.{Held}
+use Rattle.theorems.proofs.Choices.{by-test}
+
+held-pen : (c : Coprocessor) (pen : Pen) → Held c → Held (withPen c pen)
+unfolding withPen
+held-pen c pen h =
+    record {
+      four = h .four;
+      bases = h .bases;
+      steps = h .steps;
+      foreground-mix = h .foreground-mix;
+      background-mix = h .background-mix;
+      compare-value = h .compare-value;
+      planes = h .planes;
+      carries = h .carries;
+      foreground-colour = h .foreground-colour;
+      background-colour = h .background-colour;
+      operations = h .operations;
+    }
+
+pub held-run : (c : Coprocessor) (memory : List ℕ) (n : ℕ) → Held c → Held (runAnswer c memory n .coprocessor)
+unfolding runAnswer
+held-run c memory n h =
+    by-test (λ (d : Drawn). Held (d .coprocessor)) (isAccepted (runRefusal c memory)) (λ accepted. held-pen c _ h) (λ refused. h)

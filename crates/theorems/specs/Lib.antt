@@ -1,0 +1,4 @@
+pub mod Held
+pub mod Totals
+pub mod ReadBack
+pub mod Cuts
