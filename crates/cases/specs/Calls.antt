@@ -1,0 +1,84 @@
+-- A worked case: calls on a fresh coprocessor over lent memory, each with the answer that the paper gives.
+use Prim.Native.Nat.{ℕ, suc}
+use mathlib.Core.Bool.{Bool, true, false, _&&_}
+use mathlib.Core.List.{List, [], _∷_}
+use lib.ListN.{length}
+use lib.Dec.{eqb}
+use Rattle.parts.specs.Refusals.{numberOf, isAccepted}
+use Rattle.coprocessor.specs.declared.Coprocessor.{Coprocessor}
+use Rattle.coprocessor.specs.declared.Written.{Written}
+use Rattle.coprocessor.specs.Fresh.{freshAnswer}
+use Rattle.coprocessor.specs.Writes.{writeAnswer}
+use Rattle.coprocessor.specs.Reads.{readAnswer}
+use Rattle.coprocessor.specs.Runs.{runAnswer, runMemory}
+use Rattle.coprocessor.specs.Images.{countersOf}
+
+-- a call with its answer, or what is then seen
+pub data Call : Type 0 where
+  -- an accepted write
+  write : (offset length value : ℕ) → Call
+  -- a write that is refused with this number
+  refused : (offset length value number : ℕ) → Call
+  -- an accepted read that gives this value
+  read : (offset length value : ℕ) → Call
+  -- an accepted run that does so many positions
+  run : (allowance done : ℕ) → Call
+  -- these bytes are the memory
+  memory : (bytes : List ℕ) → Call
+  -- 01, State image: 9 state (0 idle, 1 drawing, 2 idle after stop)
+  state : (number : ℕ) → Call
+
+-- the memory at first, and the calls in turn
+pub record Play : Type 0 where
+  pub bytes : List ℕ
+  pub calls : List Call
+
+-- a row of the table: the case's number in 01, and what is played for it
+pub record Case : Type 0 where
+  pub number : ℕ
+  pub plays : List Play
+
+-- the same numbers
+unfoldable pub same : List ℕ → List ℕ → Bool
+same [] [] = true
+same [] (y ∷ ys) = false
+same (x ∷ xs) [] = false
+same (x ∷ xs) (y ∷ ys) = eqb x y && same xs ys
+
+-- what a write answers
+unfoldable pub written : ℕ → ℕ → ℕ → Coprocessor → Written
+written offset length value c = writeAnswer (record { offset = offset; length = length; value = value }) c
+
+-- whether each call has its answer, by what the coprocessor's calls promise
+unfoldable pub answers : List Call → Coprocessor → List ℕ → Bool
+answers [] c bytes = true
+answers (write offset length value ∷ calls) c bytes =
+    isAccepted (written offset length value c .refusal) && answers calls (written offset length value c .coprocessor) bytes
+answers (refused offset length value number ∷ calls) c bytes =
+    eqb (numberOf (written offset length value c .refusal)) number
+    && answers calls (written offset length value c .coprocessor) bytes
+answers (read offset length value ∷ calls) c bytes =
+    isAccepted (readAnswer c offset length .refusal)
+    && eqb (readAnswer c offset length .value) value
+    && answers calls c bytes
+answers (run allowance done ∷ calls) c bytes =
+    isAccepted (runAnswer c bytes allowance .refusal)
+    && eqb (runAnswer c bytes allowance .done) done
+    && answers calls (runAnswer c bytes allowance .coprocessor) (runMemory c bytes allowance)
+answers (memory seen ∷ calls) c bytes = same bytes seen && answers calls c bytes
+answers (state number ∷ calls) c bytes = eqb (countersOf (c .drawing) .state) number && answers calls c bytes
+
+-- whether a fresh coprocessor over the memory plays so
+unfoldable pub played : Play → Bool
+played p =
+    isAccepted (freshAnswer (length (p .bytes)) .refusal)
+    && answers (p .calls) (freshAnswer (length (p .bytes)) .coprocessor) (p .bytes)
+
+unfoldable pub allPlayed : List Play → Bool
+allPlayed [] = true
+allPlayed (p ∷ ps) = played p && allPlayed ps
+
+-- whether every case holds; they are numbered from n on
+unfoldable pub holdFrom : ℕ → List Case → Bool
+holdFrom n [] = true
+holdFrom n (case ∷ cases) = eqb (case .number) n && allPlayed (case .plays) && holdFrom (suc n) cases
