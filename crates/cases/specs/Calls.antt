@@ -1,6 +1,6 @@
 -- A worked case: calls on a fresh coprocessor over lent memory, each with the answer that the paper gives.
 use Prim.Native.Nat.{ℕ, suc}
-use mathlib.Core.Bool.{Bool, true, false, _&&_}
+use mathlib.Core.Bool.{Bool, true, false, not, _&&_}
 use mathlib.Core.List.{List, [], _∷_}
 use lib.ListN.{length}
 use lib.Dec.{eqb}
@@ -25,6 +25,8 @@ pub data Call : Type 0 where
   run : (allowance done : ℕ) → Call
   -- these bytes are the memory
   memory : (bytes : List ℕ) → Call
+  -- these bytes are the memory no more
+  changed : (bytes : List ℕ) → Call
   -- 01, State image: 9 state (0 idle, 1 drawing, 2 idle after stop)
   state : (number : ℕ) → Call
 
@@ -66,6 +68,7 @@ answers (run allowance done ∷ calls) c bytes =
     && eqb (runAnswer c bytes allowance .done) done
     && answers calls (runAnswer c bytes allowance .coprocessor) (runMemory c bytes allowance)
 answers (memory seen ∷ calls) c bytes = same bytes seen && answers calls c bytes
+answers (changed before ∷ calls) c bytes = not (same bytes before) && answers calls c bytes
 answers (state number ∷ calls) c bytes = eqb (countersOf (c .drawing) .state) number && answers calls c bytes
 
 -- whether a fresh coprocessor over the memory plays so

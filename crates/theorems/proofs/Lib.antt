@@ -17,3 +17,4 @@ pub mod LoadedLaws
 pub mod HeldRuns
 pub mod CutLaws
 pub mod GoingOn
+pub mod OneAnswer

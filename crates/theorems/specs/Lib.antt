@@ -2,3 +2,4 @@ pub mod Held
 pub mod Totals
 pub mod ReadBack
 pub mod Cuts
+pub mod One
