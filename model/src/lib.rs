@@ -7,6 +7,7 @@ pub mod circle;
 pub mod codes;
 pub mod coprocessor;
 pub mod drawing;
+pub mod fast;
 pub mod image;
 pub mod map;
 pub mod mixes;

@@ -26,15 +26,16 @@ use Rattle.position.specs.Drawn.{sourcePixel, isForeground, inkOf, picked, mixe
 use Rattle.position.specs.Fates.{destinationPixel, onZero, isCompared, fateOf}
 use Rattle.position.specs.Places.{isWithin, columnOf, onMap, maskX, maskY, inMask, isMove, isFirst, isLast, isNulled}
 use Rattle.runs.specs.Runs.{begun, positioned, stepped, after}
+use Rattle.image.specs.Counters.{countersOf}
+use Rattle.image.specs.Words.{pointWord, spotWord, sizeWord, inksWord, mapWords, termWords, colourWords, pointerWords, bankOf}
+use Rattle.coprocessor.specs.Reads.{wordsOf, valueAt, readRefusal, readAnswer}
 use Rattle.coprocessor.specs.Fresh.{sizeHolds, freshOf, freshAnswer}
-use Rattle.coprocessor.specs.Images.{countersOf}
-use Rattle.coprocessor.specs.Reads.{pointWord, spotWord, sizeWord, inksWord, wordsOf, valueAt, readRefusal, readAnswer}
 use Rattle.coprocessor.specs.Runs.{setupOf, penOf, withPen, ranOf, runRefusal, runAnswer, runMemory}
 use Rattle.coprocessor.specs.Valid.{startRefusalOf, mapsReduced, pointersReduced, reducedOf, goesOn, validOf}
 use Rattle.coprocessor.specs.Writes.{merged as stored, startsBy, started, startedRefusal, storeRefusal, writeRefusal, settledBy, writeAnswer}
-use Rattle.cases.specs.Calls.{same, written, answers, played, allPlayed, holdFrom}
-use Rattle.cases.specs.Cases.{zeros, mapped, inked, mixes, dot, rows, codes, based, case1, case2, case3, case4, case5, case6, case7, case8, case9, case10, case11, case12, sample, cases}
+use Rattle.cases.specs.Calls.{same, zeros, written, answers, played, allPlayed, holdFrom}
+use Rattle.cases.specs.Cases.{mapped, inked, mixes, dot, rows, codes, based, case1, case2, case3, case4, case5, case6, case7, case8, case9, case10, case11, case12, sample, cases}
 
 pub table : holdFrom 1 cases ≡ true
-unfolding numberOf byteOf partOf covers latchedBytes latched forth back residue circle field withField bitsOf startOf placeOf shiftOf neededOf byteAt pixelAt withPixel holdsOf conditionHolds tableBit logical gathered scattered worked arithmetic merged mixed touched taken takenLow takenTerm takenDestination mapReduced termReduced termsReduced compareReduced pointReduced destinationReduced spotReduced registers among listed placed mapTaken termsTaken inkTaken compareTaken pointTaken spotTaken noneStopped countersHold pointersHold mapAt formatHolds endHolds isInside isMap isLine isCodes isBlock draws sourceIsColour usesSource usesPattern usesMask isSource isPattern fieldsHold mixesHold usedMaps formatsHold endsHold startRefusal turned sourceStarted patternStarted codeAt drawingStarted signOf courseOf flowOf sourceBy destinationBy penStepped penWith penGone lineError lineMoved codePassed codesMoved movedBy moved lineStep codeStep turnedBy circledBy pointStepped spotStepped pixelBeyond isBeyond sourcePixel isForeground inkOf picked mixedPixel drawnBy drawn destinationPixel onZero isCompared fateOf isWithin columnOf onMap maskX maskY inMask isMove isFirst isLast isNulled begun positioned stepped after sizeHolds freshOf freshAnswer countersOf pointWord spotWord sizeWord inksWord wordsOf valueAt readRefusal readAnswer setupOf penOf withPen ranOf runRefusal runAnswer runMemory startRefusalOf mapsReduced pointersReduced reducedOf goesOn validOf stored startsBy started startedRefusal storeRefusal writeRefusal settledBy writeAnswer same written answers played allPlayed holdFrom zeros mapped inked mixes dot rows codes based case1 case2 case3 case4 case5 case6 case7 case8 case9 case10 case11 case12 sample cases
+unfolding numberOf byteOf partOf covers latchedBytes latched forth back residue circle field withField bitsOf startOf placeOf shiftOf neededOf byteAt pixelAt withPixel holdsOf conditionHolds tableBit logical gathered scattered worked arithmetic merged mixed touched taken takenLow takenTerm takenDestination mapReduced termReduced termsReduced compareReduced pointReduced destinationReduced spotReduced registers among listed placed mapTaken termsTaken inkTaken compareTaken pointTaken spotTaken noneStopped countersHold pointersHold mapAt formatHolds endHolds isInside isMap isLine isCodes isBlock draws sourceIsColour usesSource usesPattern usesMask isSource isPattern fieldsHold mixesHold usedMaps formatsHold endsHold startRefusal turned sourceStarted patternStarted codeAt drawingStarted signOf courseOf flowOf sourceBy destinationBy penStepped penWith penGone lineError lineMoved codePassed codesMoved movedBy moved lineStep codeStep turnedBy circledBy pointStepped spotStepped pixelBeyond isBeyond sourcePixel isForeground inkOf picked mixedPixel drawnBy drawn destinationPixel onZero isCompared fateOf isWithin columnOf onMap maskX maskY inMask isMove isFirst isLast isNulled begun positioned stepped after sizeHolds freshOf freshAnswer setupOf penOf withPen ranOf runRefusal runAnswer runMemory startRefusalOf mapsReduced pointersReduced reducedOf goesOn validOf stored startsBy started startedRefusal storeRefusal writeRefusal settledBy writeAnswer same written answers played allPlayed holdFrom zeros mapped inked mixes dot rows codes based case1 case2 case3 case4 case5 case6 case7 case8 case9 case10 case11 case12 sample cases countersOf pointWord spotWord sizeWord inksWord mapWords termWords colourWords pointerWords bankOf wordsOf valueAt readRefusal readAnswer
 table = refl

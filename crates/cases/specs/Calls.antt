@@ -1,5 +1,5 @@
 -- A worked case: calls on a fresh coprocessor over lent memory, each with the answer that the paper gives.
-use Prim.Native.Nat.{ℕ, suc}
+use Prim.Native.Nat.{ℕ, zero, suc}
 use mathlib.Core.Bool.{Bool, true, false, not, _&&_}
 use mathlib.Core.List.{List, [], _∷_}
 use lib.ListN.{length}
@@ -11,7 +11,8 @@ use Rattle.coprocessor.specs.Fresh.{freshAnswer}
 use Rattle.coprocessor.specs.Writes.{writeAnswer}
 use Rattle.coprocessor.specs.Reads.{readAnswer}
 use Rattle.coprocessor.specs.Runs.{runAnswer, runMemory}
-use Rattle.coprocessor.specs.Images.{countersOf}
+use Rattle.image.specs.Counters.{countersOf}
+use Rattle.coprocessor.specs.Images.{saveRefusal, saved, loadAnswer}
 
 -- a call with its answer, or what is then seen
 pub data Call : Type 0 where
@@ -21,8 +22,18 @@ pub data Call : Type 0 where
   refused : (offset length value number : ℕ) → Call
   -- an accepted read that gives this value
   read : (offset length value : ℕ) → Call
+  -- a read that is refused with this number, and gives 0
+  unread : (offset length number : ℕ) → Call
   -- an accepted run that does so many positions
   run : (allowance done : ℕ) → Call
+  -- the state saved into 115 bytes, and those loaded into a fresh coprocessor of this size, where the play goes on
+  carried : (size : ℕ) → Call
+  -- a save into so many bytes that is refused with this number, and leaves them
+  unsaved : (length number : ℕ) → Call
+  -- a load of these bytes that is refused with this number
+  unloaded : (bytes : List ℕ) (number : ℕ) → Call
+  -- what a fresh state of this size answers
+  fresh : (size number : ℕ) → Call
   -- these bytes are the memory
   memory : (bytes : List ℕ) → Call
   -- these bytes are the memory no more
@@ -47,6 +58,11 @@ same [] (y ∷ ys) = false
 same (x ∷ xs) [] = false
 same (x ∷ xs) (y ∷ ys) = eqb x y && same xs ys
 
+-- so many bytes 0
+unfoldable pub zeros : ℕ → List ℕ
+zeros zero = []
+zeros (suc n) = 0 ∷ zeros n
+
 -- what a write answers
 unfoldable pub written : ℕ → ℕ → ℕ → Coprocessor → Written
 written offset length value c = writeAnswer (record { offset = offset; length = length; value = value }) c
@@ -63,10 +79,25 @@ answers (read offset length value ∷ calls) c bytes =
     isAccepted (readAnswer c offset length .refusal)
     && eqb (readAnswer c offset length .value) value
     && answers calls c bytes
+answers (unread offset length number ∷ calls) c bytes =
+    eqb (numberOf (readAnswer c offset length .refusal)) number
+    && eqb (readAnswer c offset length .value) 0
+    && answers calls c bytes
 answers (run allowance done ∷ calls) c bytes =
     isAccepted (runAnswer c bytes allowance .refusal)
     && eqb (runAnswer c bytes allowance .done) done
     && answers calls (runAnswer c bytes allowance .coprocessor) (runMemory c bytes allowance)
+answers (carried size ∷ calls) c bytes =
+    isAccepted (saveRefusal c (zeros 115))
+    && isAccepted (loadAnswer (freshAnswer size .coprocessor) (saved c (zeros 115)) .refusal)
+    && answers calls (loadAnswer (freshAnswer size .coprocessor) (saved c (zeros 115)) .coprocessor) bytes
+answers (unsaved length number ∷ calls) c bytes =
+    eqb (numberOf (saveRefusal c (zeros length))) number
+    && same (saved c (zeros length)) (zeros length)
+    && answers calls c bytes
+answers (unloaded image number ∷ calls) c bytes =
+    eqb (numberOf (loadAnswer c image .refusal)) number && answers calls (loadAnswer c image .coprocessor) bytes
+answers (fresh size number ∷ calls) c bytes = eqb (numberOf (freshAnswer size .refusal)) number && answers calls c bytes
 answers (memory seen ∷ calls) c bytes = same bytes seen && answers calls c bytes
 answers (changed before ∷ calls) c bytes = not (same bytes before) && answers calls c bytes
 answers (state number ∷ calls) c bytes = eqb (countersOf (c .drawing) .state) number && answers calls c bytes

@@ -1,14 +1,9 @@
 -- The worked cases of 01 as one table; registers that a case does not speak of are set so that something is drawn.
-use Prim.Native.Nat.{ℕ, zero, suc}
+use Prim.Native.Nat.{ℕ}
 use mathlib.Core.List.{List, [], _∷_, _++_}
-use Rattle.cases.specs.Calls.{Call, Play, Case, write, refused, read, run, memory, state}
+use Rattle.cases.specs.Calls.{Call, Play, Case, zeros, write, refused, read, run, memory, state}
 
 -- ---- what the cases share
-
--- so many bytes 0
-unfoldable pub zeros : ℕ → List ℕ
-zeros zero = []
-zeros (suc n) = 0 ∷ zeros n
 
 -- a map's registers: 0 is M, 1 is A, 2 is B
 unfoldable pub mapped : (index base width height format : ℕ) → List Call

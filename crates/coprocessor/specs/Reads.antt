@@ -1,39 +1,20 @@
 -- The register bank as it reads back, and the answer of a read.
-use Prim.Native.Nat.{ℕ, _+_, _*_, _/_, _%_, _^_}
-use mathlib.Core.Bool.{Bool, not}
+use Prim.Native.Nat.{ℕ, _*_, _/_, _%_, _^_}
+use mathlib.Core.Bool.{not}
 use mathlib.Core.List.{List, [], _∷_}
 use lib.ListN.{getD}
 use Rattle.numbers.specs.Choose.{choose}
 use Rattle.numbers.specs.Bytes.{partOf}
 use Rattle.numbers.specs.Circles.{residue}
-use Rattle.pixels.specs.declared.Map.{Map}
-use Rattle.parts.specs.declared.shapes.Compare.{Compare}
-use Rattle.parts.specs.declared.shapes.Ink.{Ink}
-use Rattle.parts.specs.declared.shapes.Point.{Point}
-use Rattle.parts.specs.declared.shapes.Spot.{Spot}
 use Rattle.parts.specs.declared.refusals.Refusal.{Refusal}
 use Rattle.parts.specs.declared.refusals.Refusal.the-variants.{Accepted, Place, Unlisted, Image}
 use Rattle.parts.specs.Refusals.{isAccepted}
 use Rattle.parts.specs.Registers.{placed, listed}
 use Rattle.rules.specs.Maps.{mapAt}
+use Rattle.image.specs.Words.{pointWord, spotWord, sizeWord, inksWord}
 use Rattle.coprocessor.specs.declared.Coprocessor.{Coprocessor}
 use Rattle.coprocessor.specs.declared.Found.{Found}
 use Rattle.coprocessor.specs.Valid.{validOf}
-
--- two registers of two bytes as one word
-unfoldable pub pointWord : Point → ℕ
-pointWord p = p .x + 65536 * p .y
-
--- 01, Registers: negative ones read back sign-extended
-unfoldable pub spotWord : Spot → ℕ
-spotWord s = residue (2 ^ 16) (s .x) + 65536 * residue (2 ^ 16) (s .y)
-
-unfoldable pub sizeWord : Map → ℕ
-sizeWord map = map .width + 65536 * map .height
-
--- 01, Registers: 48:1 foreground mix, 49:1 background mix, 4A:1 compare condition
-unfoldable pub inksWord : Ink → Ink → Compare → ℕ
-inksWord foreground background compare = foreground .mix + 256 * background .mix + 65536 * compare .condition
 
 -- 01, Registers: the bank from offset 0 to 7F hex, a word of four bytes at each multiple of 4; 0 where no register is listed
 unfoldable pub wordsOf : Coprocessor → List ℕ

@@ -9,7 +9,6 @@ use parts::shapes::Terms;
 use pixels::Map;
 
 mod drawing;
-mod fields;
 mod fresh;
 mod images;
 mod loads;

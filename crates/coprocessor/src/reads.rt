@@ -1,47 +1,17 @@
 ghost use mathlib.Core.Path.{_≡_};
-ghost use Rattle.coprocessor.specs.Reads.{pointWord, spotWord, sizeWord, inksWord, wordsOf, readRefusal, readAnswer};
+ghost use Rattle.coprocessor.specs.Reads.{wordsOf, readRefusal, readAnswer};
 use crate::Coprocessor;
 use crate::Found;
+use image::words::bank;
+use image::words::colour_words;
+use image::words::map_words;
+use image::words::pointer_words;
+use image::words::term_words;
 use numbers::bytes::part;
-use numbers::circles::half_word;
-use numbers::circles::word;
 use parts::refusals::Refusal;
 use parts::refusals::accepts;
 use parts::registers::is_listed;
 use parts::registers::is_placed;
-use parts::shapes::Compare;
-use parts::shapes::Ink;
-use parts::shapes::Point;
-use parts::shapes::Spot;
-use pixels::Map;
-use rules::maps::map_at;
-
-fn point_word(point: Point) -> u32
-    ensures { λ r. ⌜ r ≡ pointWord point ⌝ }
-{
-    point.x as u32 + 65536 * point.y as u32
-}
-
-fn spot_word(spot: Spot) -> u32
-    ensures { λ r. ⌜ r ≡ spotWord spot ⌝ }
-{
-    let low = half_word(spot.x);
-    let high = half_word(spot.y);
-    low as u32 + 65536 * high as u32
-}
-
-fn size_word(map: Map) -> u32
-    ensures { λ r. ⌜ r ≡ sizeWord map ⌝ }
-{
-    map.width as u32 + 65536 * map.height as u32
-}
-
-// The two mixes and the condition, as offset 48 hex reads.
-fn inks_word(foreground: Ink, background: Ink, compare: Compare) -> u32
-    ensures { λ r. ⌜ r ≡ inksWord foreground background compare ⌝ }
-{
-    foreground.mix as u32 + 256 * background.mix as u32 + 65536 * compare.condition as u32
-}
 
 impl Coprocessor {
     // The register bank as it reads back, a word at each multiple of 4.
@@ -49,7 +19,6 @@ impl Coprocessor {
         ensures { λ r. ⌜ r ≡ wordsOf self ⌝ }
     {
         let maps = self.maps;
-        let map = map_at(maps, self.index as u32);
         let terms = self.terms;
         let foreground = self.foreground;
         let background = self.background;
@@ -59,50 +28,19 @@ impl Coprocessor {
         let source = self.source;
         let pattern = self.pattern;
         let destination = self.destination;
-        let size = size_word(map);
-        let e = word(terms.e);
-        let k1 = word(terms.k1);
-        let k2 = word(terms.k2);
-        let inks = inks_word(foreground, background, compare);
-        let extent = point_word(dimensions);
-        let corner = point_word(origin);
-        let from = point_word(source);
-        let through = point_word(pattern);
-        let to = spot_word(destination);
-        [
-            0,
-            0,
-            0,
-            0,
-            65536 * self.index as u32,
-            map.base,
-            size,
-            map.format as u32,
-            e,
-            k1,
-            k2,
-            self.steps,
-            0,
-            0,
-            0,
-            0,
-            0,
-            0,
-            inks,
-            compare.value,
-            self.planes,
-            self.carries,
-            foreground.colour,
-            background.colour,
-            extent,
-            0,
-            0,
-            corner,
-            from,
-            through,
-            to,
-            self.operations,
-        ]
+        bank(
+            map_words(self.index, maps),
+            term_words(terms, self.steps),
+            colour_words(
+                foreground,
+                background,
+                compare,
+                self.planes,
+                self.carries,
+                dimensions,
+            ),
+            pointer_words(origin, source, pattern, destination, self.operations),
+        )
     }
 
     // The refusal of a read, if any: 1, 3, 10.

@@ -15,8 +15,8 @@ use Rattle.rules.specs.Operations.{isLine, isCodes, isBlock, functionOf}
 use Rattle.rules.specs.Going.{countersHold}
 use Rattle.rules.proofs.Conjunctions.{and-l, and-r}
 use Rattle.rules.proofs.CounterLaws.{line-held, codes-held, block-held}
-use Rattle.coprocessor.specs.declared.images.Counters.{Counters}
-use Rattle.coprocessor.specs.Images.{countersOf, drawingOf, sameCounters}
+use Rattle.image.specs.declared.counters.Counters.{Counters}
+use Rattle.image.specs.Counters.{countersOf, drawingOf, sameCounters}
 use Rattle.coprocessor.proofs.PlaceLaws.{or-cases, lengths}
 use Rattle.theorems.proofs.ValidFields.{point-bounds}
 

@@ -15,17 +15,20 @@ use Rattle.numbers.specs.Bytes.{le, numberOf, partOf}
 use Rattle.numbers.specs.Circles.{residue}
 use Rattle.numbers.proofs.CircleLaws.{residue-lt}
 use Rattle.pixels.specs.declared.Map.{Map}
-use Rattle.parts.specs.declared.shapes.Terms.{Terms}
 use Rattle.parts.specs.declared.shapes.Point.{Point}
 use Rattle.parts.specs.declared.shapes.Spot.{Spot}
 use Rattle.parts.specs.Reduced.{mapReduced, pointReduced, spotReduced, termReduced, termsReduced}
 use Rattle.parts.specs.declared.refusals.Refusal.the-variants.{Accepted}
 use Rattle.rules.specs.Maps.{mapAt}
 use Rattle.rules.proofs.Conjunctions.{and-l, and-r}
+use Rattle.image.specs.Words.{pointWord, spotWord, inksWord}
+use Rattle.image.specs.Counters.{countersOf, drawingOf, sameCounters}
+use Rattle.image.specs.Fields.{laid, counterFields, headFields, mapFields, mapsFields, wordFields, bankFields, fieldsBy}
+use Rattle.image.specs.Places.{at, mapFrom, inkFrom, pointFrom, spotFrom, mapsFrom, termsFrom, compareFrom, countersFrom}
 use Rattle.coprocessor.specs.declared.Coprocessor.{Coprocessor}
 use Rattle.coprocessor.specs.Valid.{validOf}
-use Rattle.coprocessor.specs.Reads.{pointWord, spotWord, inksWord, wordsOf}
-use Rattle.coprocessor.specs.Images.{countersOf, drawingOf, laid, mapFields, fieldsBy, fieldsOf, imageOf, at, mapFrom, pointFrom, spotFrom, countersFrom, loaded, loads, sameCounters, saves, saved, loadAnswer}
+use Rattle.coprocessor.specs.Reads.{wordsOf}
+use Rattle.coprocessor.specs.Images.{fieldsOf, imageOf, loaded, loads, saves, saved, loadAnswer}
 use Rattle.theorems.specs.Held.{Held}
 use Rattle.numbers.proofs.BytePartLaws.{number-low, number-part}
 use Rattle.numbers.proofs.SignedBytes.{signed-residue}
@@ -33,7 +36,7 @@ use Rattle.theorems.proofs.ValidFields as valid
 use Rattle.theorems.proofs.DrawingLaws.{counters-fit, drawing-counted, counters-same}
 
 pub length-image : (c : Coprocessor) → length (imageOf c) ≡ 115
-unfolding imageOf laid fieldsOf fieldsBy mapFields le
+unfolding imageOf laid fieldsOf fieldsBy headFields counterFields mapsFields mapFields bankFields wordFields le
 length-image c = refl
 
 -- ---- the number that a field's bytes are
@@ -111,7 +114,7 @@ term-back z e =
 
 module _ (c : Coprocessor) (held : Held c) (v : validOf c ≡ true) where
   counters-back : countersFrom (imageOf c) ≡ countersOf (c .drawing)
-  unfolding countersFrom at imageOf laid fieldsOf fieldsBy mapFields le
+  unfolding countersFrom at imageOf laid fieldsOf fieldsBy headFields counterFields mapsFields mapFields bankFields wordFields le
   counters-back =
       let k = counters-fit (c .operations) (c .dimensions) (c .steps) (valid.dimensions-reduced c v) (c .drawing) (valid.counters-going c v) in
       let state = number-whole 1 (countersOf (c .drawing) .state) (k .state) in
@@ -121,7 +124,7 @@ module _ (c : Coprocessor) (held : Held c) (v : validOf c ≡ true) where
       λ i. record { state = state i; done = done i; gone = gone i; count = count i }
 
   operations-back : at 111 4 (imageOf c) ≡ c .operations
-  unfolding at imageOf laid fieldsOf fieldsBy mapFields le wordsOf
+  unfolding at imageOf laid fieldsOf fieldsBy headFields counterFields mapsFields mapFields bankFields wordFields le wordsOf
   operations-back = number-whole 4 (c .operations) (held .operations)
 
   drawing-back : drawingOf (at 111 4 (imageOf c)) (countersFrom (imageOf c)) ≡ c .drawing
@@ -129,14 +132,14 @@ module _ (c : Coprocessor) (held : Held c) (v : validOf c ≡ true) where
       (λ i. drawingOf (operations-back i) (counters-back i))
       ∙ drawing-counted (c .operations) (c .dimensions) (c .steps) (c .drawing) (valid.counters-going c v)
 
-  maps-back : mapFrom 16 (imageOf c) ∷ mapFrom 25 (imageOf c) ∷ mapFrom 34 (imageOf c) ∷ mapFrom 43 (imageOf c) ∷ [] ≡ c .maps
-  unfolding mapFrom at imageOf laid fieldsOf fieldsBy mapFields le
+  maps-back : mapsFrom (imageOf c) ≡ c .maps
+  unfolding mapsFrom mapFrom at imageOf laid fieldsOf fieldsBy headFields counterFields mapsFields mapFields bankFields wordFields le
   maps-back =
       let map : (i : ℕ) → i < 4 → _ = λ k h. map-back (mapAt (c .maps) k) (held .bases k) (valid.map-reduced c v k h) in
       (λ i. map 0 (lit< tt) i ∷ map 1 (lit< tt) i ∷ map 2 (lit< tt) i ∷ map 3 (lit< tt) i ∷ []) ∙ four-maps (c .maps) (held .four)
 
-  terms-back : _≡_ {A = Terms} (loaded (imageOf c) .terms) (c .terms)
-  unfolding loaded at imageOf laid fieldsOf fieldsBy mapFields le wordsOf termsReduced
+  terms-back : termsFrom (imageOf c) ≡ c .terms
+  unfolding termsFrom at imageOf laid fieldsOf fieldsBy headFields counterFields mapsFields mapFields bankFields wordFields le wordsOf termsReduced
   terms-back =
       let r : termsReduced (c .terms) ≡ true = valid.terms-reduced c v in
       let e = term-back (c .terms .e) (search (r, and-l, and-r)) in
@@ -145,7 +148,7 @@ module _ (c : Coprocessor) (held : Held c) (v : validOf c ≡ true) where
       λ i. record { e = e i; k1 = k1 i; k2 = k2 i }
 
   pub loaded-image : loaded (imageOf c) ≡ c
-  unfolding loaded pointFrom spotFrom at imageOf laid fieldsOf fieldsBy mapFields le wordsOf inksWord
+  unfolding loaded inkFrom compareFrom pointFrom spotFrom at imageOf laid fieldsOf fieldsBy headFields counterFields mapsFields mapFields bankFields wordFields le wordsOf inksWord
   loaded-image =
       let index = number-whole 1 (c .index) (omega (arith, valid.index-lt c v)) in
       let mixed = c .foreground .mix in
@@ -174,7 +177,7 @@ module _ (c : Coprocessor) (held : Held c) (v : validOf c ≡ true) where
       }
 
   pub loads-image : loads (imageOf c) ≡ true
-  unfolding loads at imageOf laid fieldsOf fieldsBy mapFields le numberOf
+  unfolding loads at imageOf laid fieldsOf fieldsBy headFields counterFields mapsFields mapFields bankFields wordFields le numberOf
   loads-image =
       let same : sameCounters (countersFrom (imageOf c)) (countersOf (loaded (imageOf c) .drawing)) ≡ true =
       rw (loaded-image, counters-back) (counters-same (countersOf (c .drawing))) in

@@ -15,9 +15,13 @@ use Rattle.numbers.specs.Circles.{residue}
 use Rattle.pixels.specs.declared.Map.{Map}
 use Rattle.rules.specs.Maps.{freshMap, mapAt}
 use Rattle.rules.proofs.Conjunctions.{and-l, and-r}
+use Rattle.image.specs.Words.{pointWord, spotWord, inksWord}
+use Rattle.image.specs.Counters.{countersOf}
+use Rattle.image.specs.Fields.{Field, _bytes_, laid, counterFields, headFields, mapFields, mapsFields, wordFields, bankFields, fieldsBy}
+use Rattle.image.specs.Places.{at, mapFrom, inkFrom, pointFrom, spotFrom, mapsFrom, termsFrom, compareFrom, countersFrom}
 use Rattle.coprocessor.specs.Valid.{validOf}
-use Rattle.coprocessor.specs.Reads.{pointWord, spotWord, inksWord, wordsOf}
-use Rattle.coprocessor.specs.Images.{countersOf, Field, _bytes_, laid, mapFields, fieldsBy, fieldsOf, imageOf, at, mapFrom, pointFrom, spotFrom, countersFrom, loaded, loads, saves, saved}
+use Rattle.coprocessor.specs.Reads.{wordsOf}
+use Rattle.coprocessor.specs.Images.{fieldsOf, imageOf, loaded, loads, saves, saved}
 use Rattle.theorems.specs.Held.{Held}
 use Rattle.theorems.proofs.DrawingLaws.{same-counters}
 use Rattle.numbers.proofs.BytePartLaws.{number-lt, number-split, le-part}
@@ -101,7 +105,7 @@ module _ (b : List ℕ) (small : (i : ℕ) → getD b i 0 < 256) where
     counters = sym (same-counters (countersFrom b) (countersOf (loaded b .drawing)) (search (and-l, and-r)))
 
     fields-read : fieldsOf (loaded b) ≡ reads b 0 widths
-    unfolding fieldsOf fieldsBy mapFields wordsOf mapAt loaded mapFrom pointFrom spotFrom countersFrom pointWord spotWord inksWord reads widths
+    unfolding fieldsOf fieldsBy headFields counterFields mapsFields mapFields bankFields wordFields wordsOf mapAt loaded mapsFrom mapFrom termsFrom inkFrom compareFrom pointFrom spotFrom countersFrom pointWord spotWord inksWord reads widths
     fields-read = λ i.
         (3 bytes (mark i)) ∷ (2 bytes (version i)) ∷ (4 bytes (at 5 4 b))
         ∷ (1 bytes (counters i .state)) ∷ (2 bytes (counters i .done)) ∷ (2 bytes (counters i .gone)) ∷ (1 bytes (counters i .count))
@@ -140,7 +144,7 @@ each-map P m a b c pm pa pb pc none i = go (i % 4)
     go (suc (suc (suc (suc k)))) = none
 
 pub held-loaded : (b : List ℕ) → ((i : ℕ) → getD b i 0 < 256) → Held (loaded b)
-unfolding loaded mapFrom
+unfolding loaded mapsFrom mapFrom inkFrom compareFrom
 held-loaded b small =
     let lt : (k n : ℕ) → at k n b < 256 ^ n = at-lt b small in
     record {

@@ -24,7 +24,8 @@ use Rattle.rules.specs.Maps.{mapAt}
 use Rattle.rules.proofs.Conjunctions.{and-l, and-r}
 use Rattle.coprocessor.specs.declared.Coprocessor.{Coprocessor}
 use Rattle.coprocessor.specs.Valid.{pointersReduced, reducedOf, validOf}
-use Rattle.coprocessor.specs.Reads.{pointWord, spotWord, sizeWord, inksWord, wordsOf, valueAt}
+use Rattle.image.specs.Words.{pointWord, spotWord, sizeWord, inksWord}
+use Rattle.coprocessor.specs.Reads.{wordsOf, valueAt}
 use Rattle.theorems.specs.Held.{Held}
 use Rattle.theorems.specs.ReadBack.{registerAt, shown, storedOf}
 use Rattle.theorems.proofs.MapsLaws.{map-reduced}

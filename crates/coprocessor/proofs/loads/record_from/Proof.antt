@@ -1,7 +1,8 @@
 -- `record_from` is the record that the image is: the records agree field by field.
 use mathlib.Core.Path.{_∙_}
 use native.Mathlib.Omega.{arith}
-use Rattle.coprocessor.specs.Images.{drawingOf, loaded}
+use Rattle.image.specs.Counters.{drawingOf}
+use Rattle.coprocessor.specs.Images.{loaded}
 use borrow.Author.Needs.{needs}
 use Rattle.coprocessor.proofs.loads.record_from.Statement.{statement}
 use Rattle.coprocessor.proofs.loads.record_from.Tie as tie

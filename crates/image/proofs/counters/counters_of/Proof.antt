@@ -1,0 +1,51 @@
+-- `counters_of` is the drawing's counters, case by case.
+use Rattle.image.specs.Counters.{countersOf}
+use borrow.Author.Needs.{needs}
+use Rattle.image.proofs.counters.counters_of.Statement.{statement}
+use Rattle.image.proofs.counters.counters_of.Tie as tie
+
+enum-known-drawing : tie.Need-enum-known-drawing
+enum-known-drawing c = search needs
+
+enum-known-drawing-2 : tie.Need-enum-known-drawing-2
+enum-known-drawing-2 c = search needs
+
+enum-known-drawing-3 : tie.Need-enum-known-drawing-3
+enum-known-drawing-3 c = search needs
+
+enum-known-drawing-4 : tie.Need-enum-known-drawing-4
+enum-known-drawing-4 c = search needs
+
+returns : tie.Need-returns
+unfolding countersOf
+returns c = rw (c .before .before .drawing .given .1, c .if1 .taken)
+
+returns-2 : tie.Need-returns-2
+unfolding countersOf
+returns-2 c = rw (c .before .before .drawing .given .1, c .if1 .left)
+
+returns-3 : tie.Need-returns-3
+unfolding countersOf
+returns-3 c = rw (c .before .drawing2 .given .1)
+
+returns-4 : tie.Need-returns-4
+unfolding countersOf
+returns-4 c = rw (c .before .drawing3 .given .1)
+
+returns-5 : tie.Need-returns-5
+unfolding countersOf
+returns-5 c = rw (c .before .drawing4 .given .1)
+
+pub counters-of-spec : {M : Type 1} → statement M
+counters-of-spec =
+    tie.close
+    (tie.spec
+    enum-known-drawing
+    enum-known-drawing-2
+    enum-known-drawing-3
+    enum-known-drawing-4
+    returns
+    returns-2
+    returns-3
+    returns-4
+    returns-5)

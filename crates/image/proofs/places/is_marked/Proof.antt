@@ -1,0 +1,21 @@
+-- `is_marked` tests the mark and the version, joined.
+use Rattle.image.specs.Places.{at}
+use borrow.Author.Needs.{needs}
+use Rattle.image.proofs.places.is_marked.Statement.{statement}
+use Rattle.image.proofs.places.is_marked.Tie as tie
+
+fetch-requires : tie.Need-fetch-requires
+fetch-requires c κs = search needs
+
+fetch-requires-2 : tie.Need-fetch-requires-2
+fetch-requires-2 c κs = search needs
+
+both-requires : tie.Need-both-requires
+both-requires c κs = search needs
+
+returns : tie.Need-returns
+unfolding at
+returns c = rw (c .both .ensures, c .before .fetch2 .ensures, c .before .before .fetch .ensures)
+
+pub is-marked-spec : {M : Type 1} → statement M
+is-marked-spec = tie.close (tie.spec fetch-requires fetch-requires-2 both-requires returns)

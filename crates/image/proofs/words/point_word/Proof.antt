@@ -1,0 +1,24 @@
+-- `point_word` is two registers of two bytes: both fit one word.
+use Rattle.image.specs.Words.{pointWord}
+use borrow.Author.Needs.{needs}
+use Rattle.image.proofs.words.point_word.Statement.{statement}
+use Rattle.image.proofs.words.point_word.Tie as tie
+
+cast-result : tie.Need-cast-result
+cast-result c = search needs
+
+cast-result-2 : tie.Need-cast-result-2
+cast-result-2 c = search needs
+
+mul-result : tie.Need-mul-result
+mul-result c = search needs
+
+add-result : tie.Need-add-result
+add-result c = search needs
+
+returns : tie.Need-returns
+unfolding pointWord
+returns c = search needs
+
+pub point-word-spec : {M : Type 1} → statement M
+point-word-spec = tie.close (tie.spec cast-result cast-result-2 mul-result add-result returns)

@@ -1,0 +1,24 @@
+-- `size_word` is width and height: both fit one word.
+use Rattle.image.specs.Words.{sizeWord}
+use borrow.Author.Needs.{needs}
+use Rattle.image.proofs.words.size_word.Statement.{statement}
+use Rattle.image.proofs.words.size_word.Tie as tie
+
+cast-result : tie.Need-cast-result
+cast-result c = search needs
+
+cast-result-2 : tie.Need-cast-result-2
+cast-result-2 c = search needs
+
+mul-result : tie.Need-mul-result
+mul-result c = search needs
+
+add-result : tie.Need-add-result
+add-result c = search needs
+
+returns : tie.Need-returns
+unfolding sizeWord
+returns c = search needs
+
+pub size-word-spec : {M : Type 1} → statement M
+size-word-spec = tie.close (tie.spec cast-result cast-result-2 mul-result add-result returns)

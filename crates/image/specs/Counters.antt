@@ -1,0 +1,28 @@
+-- The drawing in hand, as bytes 9 to 14 of the image.
+use Prim.Native.Nat.{ℕ}
+use mathlib.Core.Bool.{Bool, true, false, _&&_}
+use lib.Dec.{eqb}
+use Rattle.numbers.specs.Choose.{choose}
+use Rattle.parts.specs.declared.drawing.Drawing.{Drawing}
+use Rattle.parts.specs.declared.drawing.Drawing.the-variants.{Nothing, Line, Codes, Block}
+use Rattle.rules.specs.Operations.{isLine, isCodes}
+use Rattle.image.specs.declared.counters.Counters.{Counters}
+
+-- 01, State image: 9 state (0 idle, 1 drawing, 2 idle after stop), 10 positions done in this row, line or code, 12 rows or codes done, 14 codes in the starting write; counters not of the function are zero
+unfoldable pub countersOf : Drawing → Counters
+countersOf (Nothing stopped) = record { state = choose stopped 2 0; done = 0; gone = 0; count = 0 }
+countersOf (Line done) = record { state = 1; done = done; gone = 0; count = 0 }
+countersOf (Codes count code done) = record { state = 1; done = done; gone = code; count = count }
+countersOf (Block column row) = record { state = 1; done = column; gone = row; count = 0 }
+
+-- the drawing that these counters are, by the stored function
+unfoldable pub drawingOf : ℕ → Counters → Drawing
+drawingOf operations k =
+    choose (eqb (k .state) 0) (Nothing false)
+    (choose (eqb (k .state) 2) (Nothing true)
+    (choose (isLine operations) (Line (k .done))
+    (choose (isCodes operations) (Codes (k .count) (k .gone) (k .done))
+    (Block (k .done) (k .gone)))))
+
+unfoldable pub sameCounters : Counters → Counters → Bool
+sameCounters j k = eqb (j .state) (k .state) && eqb (j .done) (k .done) && eqb (j .gone) (k .gone) && eqb (j .count) (k .count)

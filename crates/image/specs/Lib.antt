@@ -1,0 +1,4 @@
+pub mod Words
+pub mod Counters
+pub mod Fields
+pub mod Places

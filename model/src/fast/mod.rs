@@ -1,0 +1,94 @@
+//! The same run as [`Coprocessor::run`], written for speed: the yardstick of the proved library.
+//!
+//! The registers are decoded once into a `Setup`, the loop carries a `Pen` along one `Stretch` after another, and
+//! the record is put together at the end.
+
+mod inks;
+mod pen;
+mod points;
+mod position;
+mod setup;
+mod stretches;
+mod surfaces;
+mod valid;
+
+use crate::coprocessor::Coprocessor;
+use crate::drawing::Drawing;
+use crate::refusals::{Refusal, NONE};
+use pen::Pen;
+use setup::Setup;
+use stretches::Stretch;
+
+/// Does at most `allowance` positions, and answers the refusal and how many it did, as [`Coprocessor::run`].
+pub fn run(coprocessor: &mut Coprocessor, memory: &mut [u8], allowance: u32) -> (u32, u32) {
+    if memory.len() as u64 != u64::from(coprocessor.size) {
+        return (Refusal::Size.number(), 0);
+    }
+    if !valid::is_valid(coprocessor) {
+        return (Refusal::Image.number(), 0);
+    }
+    draw(coprocessor, memory, allowance)
+}
+
+/// Positions one after another, until the allowance or the drawing ends.
+fn draw(coprocessor: &mut Coprocessor, memory: &mut [u8], allowance: u32) -> (u32, u32) {
+    let Some(setup) = Setup::of(coprocessor) else {
+        return (NONE, 0);
+    };
+    let (mut stretch, begun) = Stretch::of(&setup, coprocessor.drawing);
+    let mut pen = Pen::of(&coprocessor.registers, begun);
+    stretch.find_row_start(&setup, &pen);
+
+    let mut refusal = NONE;
+    let mut end = None;
+    let mut done = 0;
+    while done < allowance {
+        if position::draw(&setup, &stretch, &pen, memory).is_none() {
+            refusal = Refusal::Reach.number();
+            end = Some(Drawing::Nothing { stopped: false });
+            break;
+        }
+        done += 1;
+        if pen.done < stretch.last {
+            pen = pen.stepped(&setup, &stretch);
+        } else {
+            (pen, end) = stretch.pass(&setup, pen);
+            if end.is_some() {
+                break;
+            }
+        }
+    }
+    pen.put_back(&mut coprocessor.registers);
+    coprocessor.drawing = end.unwrap_or_else(|| stretch.drawing(&setup, pen.done));
+    (refusal, done)
+}
+
+#[cfg(test)]
+mod tests {
+    use super::*;
+
+    #[test]
+    fn refusal_11_leaves_what_earlier_positions_did_and_makes_the_drawing_idle() {
+        let (mut coprocessor, _) = Coprocessor::fresh(8);
+        let writes = [
+            (0x12, 1, 1),
+            (0x18, 2, 7),
+            (0x1C, 1, 3),
+            (0x48, 1, 3),
+            (0x4A, 1, 4),
+            (0x50, 4, 0xFF),
+            (0x58, 4, 0xAA),
+            (0x60, 2, 7),
+            (0x7C, 4, 0x0801_8000),
+        ];
+        for (offset, length, value) in writes {
+            assert_eq!(coprocessor.write(offset, length, value), NONE);
+        }
+        // A run refuses such a memory with 9, so only the loop inside it can be lent one.
+        let mut memory = [0; 3];
+        assert_eq!(draw(&mut coprocessor, &mut memory, 9), (11, 3));
+        assert_eq!(memory, [0xAA; 3]);
+        assert_eq!(coprocessor.drawing, Drawing::Nothing { stopped: false });
+        assert_eq!(coprocessor.registers.destination_x, 3);
+    }
+}

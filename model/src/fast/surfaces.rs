@@ -1,0 +1,61 @@
+//! A pixel map as the loop uses it.
+
+use crate::map::Map;
+use crate::mixes;
+
+/// A map with its sizes worked out.
+pub(super) struct Surface {
+    base: usize,
+    pub(super) row_length: u32,
+    pub(super) rows: u32,
+    pixel_code: u32,
+    ones: u32,
+}
+
+/// A pixel's byte and the place of its lowest bit there.
+pub(super) struct Place {
+    pub(super) byte: usize,
+    pub(super) shift: u32,
+}
+
+impl Surface {
+    /// The surface of a map whose format was accepted.
+    pub(super) fn of(map: &Map) -> Surface {
+        Surface {
+            base: map.base as usize,
+            row_length: map.row_length(),
+            rows: map.rows(),
+            pixel_code: u32::from(map.pixel_code()),
+            ones: mixes::ones(map.bits()),
+        }
+    }
+
+    /// All ones of a pixel.
+    pub(super) fn ones(&self) -> u32 {
+        self.ones
+    }
+
+    /// Whether the pixel lies inside.
+    #[inline(always)]
+    pub(super) fn holds(&self, x: u32, y: u32) -> bool {
+        x < self.row_length && y < self.rows
+    }
+
+    /// Where the pixel lies.
+    #[inline(always)]
+    pub(super) fn place(&self, x: u32, y: u32) -> Place {
+        let bit = (y * self.row_length + x) << self.pixel_code;
+        Place {
+            byte: self.base + (bit >> 3) as usize,
+            shift: bit & 7,
+        }
+    }
+
+    /// The pixel's value, if it lies in the memory.
+    #[inline(always)]
+    pub(super) fn pixel(&self, memory: &[u8], x: u32, y: u32) -> Option<u32> {
+        let place = self.place(x, y);
+        let byte = memory.get(place.byte)?;
+        Some(u32::from(*byte) >> place.shift & self.ones)
+    }
+}
