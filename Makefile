@@ -1,18 +1,36 @@
-# bench: draws the sample and shows it.   test: the whole gate.   compare: the proved code against the independent program.
-COUNT ?= 1000000
+# bench: plays lines on the bench program.   test: the whole gate.   compare: the proved code against the independent program.
+# speed: the proved code beside plain Rust.   picture: a motif in target/picture.pgm.   example: the sample line from C.
+COUNT ?= 130000
 SEED ?= 1
 DRAWINGS ?= 10000
+IMAGES ?= 20000
 
-.PHONY: bench test compare library
+.PHONY: bench test compare speed picture example library
 
-bench: library
-	@cargo run --offline --quiet --release --manifest-path compare/Cargo.toml --bin sample
+bench:
+	@mkdir -p target
+	@rt check bench > target/bench.log 2>&1 || { cat target/bench.log; exit 1; }
+	@target/bin/bench < $(or $(LINES),crates/bench/stdin)
 
 test:
 	.ci/run
 
 compare: library
-	@cargo run --offline --quiet --release --manifest-path compare/Cargo.toml --bin compare -- $(COUNT) $(SEED) $(DRAWINGS)
+	@cargo run --offline --quiet --release --manifest-path compare/Cargo.toml --bin compare -- \
+		seed=$(SEED) images=$(IMAGES) drawings=$(DRAWINGS) sequences=$(COUNT)
+
+speed: library
+	@cargo run --offline --quiet --profile speed --manifest-path compare/Cargo.toml --bin speed
+	@size target/staticlib/libboard.a | awk 'NR > 1 { text += $$1 } END { print "libboard.a: " text " bytes of text" }'
+
+picture: library
+	@cargo run --offline --quiet --release --manifest-path compare/Cargo.toml --bin picture -- target/picture.pgm
+
+example: library
+	@gcc -std=c99 -Wall -Wextra -Werror -pedantic -O2 c/sample.c target/staticlib/libboard.a -o target/sample
+	@! command -v g++ > /dev/null || g++ -Wall -Wextra -Werror -pedantic -fsyntax-only -x c++ c/xga.h
+	@target/sample > target/sample.out
+	@diff target/sample.out c/sample.out && cat target/sample.out
 
 library:
 	@mkdir -p target

@@ -37,10 +37,10 @@ pub fn write(image: &mut [u8], offset: u32, length: u32, value: u32) -> u32 {
     unsafe { exported::xga_write(image.as_mut_ptr(), image.len(), offset, length, value) }
 }
 
-/// Reads registers: the refusal, or 0, and the value.
-pub fn read(image: &[u8], offset: u32, length: u32) -> (u32, u32) {
-    // SAFETY: the pointer and the length are those of one slice.
-    halves(unsafe { exported::xga_read(image.as_ptr(), image.len(), offset, length) })
+/// Reads registers: the refusal, or 0, and the value; the image is lent so that a byte changed would be seen.
+pub fn read(image: &mut [u8], offset: u32, length: u32) -> (u32, u32) {
+    // SAFETY: the pointer and the length are those of one slice, which is lent for the call.
+    halves(unsafe { exported::xga_read(image.as_mut_ptr(), image.len(), offset, length) })
 }
 
 /// Runs the drawing in hand: the refusal, or 0, and the positions done.
@@ -57,10 +57,10 @@ pub fn run(image: &mut [u8], memory: &mut [u8], allowance: u32) -> (u32, u32) {
     })
 }
 
-/// 0 where the image would load, otherwise 10.
-pub fn load(image: &[u8]) -> u32 {
-    // SAFETY: the pointer and the length are those of one slice.
-    unsafe { exported::xga_load(image.as_ptr(), image.len()) }
+/// 0 where the image would load, otherwise 10; the image is lent so that a byte changed would be seen.
+pub fn load(image: &mut [u8]) -> u32 {
+    // SAFETY: the pointer and the length are those of one slice, which is lent for the call.
+    unsafe { exported::xga_load(image.as_mut_ptr(), image.len()) }
 }
 
 fn halves(answer: u64) -> (u32, u32) {

@@ -1,93 +1,154 @@
-//! Whole drawings: position by position and in one run, cut anywhere and carried to another coprocessor.
+//! Whole drawings: in one run, position by position, cut anywhere, and cut at every position and carried to another coprocessor.
 
+use crate::memories::Memories;
+use crate::others::Others;
 use crate::pair::Pair;
 use model::random::Random;
 use model::random_drawings::{self, RandomDrawing, FUNCTIONS};
+use std::fmt;
+
+/// The most positions of a drawing that is cut at every one of them.
+const LONGEST_CUT: u32 = 64;
 
 /// What a comparison of drawings met.
 #[derive(Default)]
 pub struct Counts {
-    pub drawings: [u64; 6],
-    pub positions: u64,
-    pub changed: u64,
-    pub stopped_at_once: u64,
-    pub moved: u64,
+    drawings: [u64; 6],
+    positions: u64,
+    changed: u64,
+    stopped_at_once: u64,
+    carried: u64,
+    cut_everywhere: u64,
+    cuts: u64,
+}
+
+/// A state and its memory.
+#[derive(Clone)]
+struct Board {
+    pair: Pair,
+    memories: Memories,
 }
 
 /// Compares `count` drawings of all functions in turn.
-pub fn compare(random: &mut Random, count: u64) -> Result<Counts, String> {
+pub fn compare(random: &mut Random, count: u64, others: &Others) -> Result<Counts, String> {
     let mut counts = Counts::default();
-    for turn in 0..count {
-        let kind = (turn % FUNCTIONS.len() as u64) as usize;
+    for kind in (0..FUNCTIONS.len()).cycle().take(count as usize) {
         let drawing = random_drawings::drawing(random, FUNCTIONS[kind]);
-        let whole = in_one_run(&drawing)?;
-        let single = by_allowances(random, &drawing, 1, &mut counts)?;
-        let cut = by_allowances(random, &drawing, 7, &mut counts)?;
-        if whole.0 != single || whole.0 != cut {
-            return Err(format!("a cut drawing differs from the whole: {drawing:?}"));
-        }
+        let positions = one(random, &drawing, others, &mut counts)
+            .map_err(|difference| format!("{difference}\nin {drawing:?}"))?;
         counts.drawings[kind] += 1;
-        counts.positions += u64::from(whole.1);
-        counts.changed += u64::from(whole.0 .1 != drawing.memory);
-        counts.stopped_at_once += u64::from(whole.1 == 0);
+        counts.positions += u64::from(positions);
+        counts.stopped_at_once += u64::from(positions == 0);
     }
     Ok(counts)
 }
 
-/// The image and the memory at a drawing's end.
-type End = (Vec<u8>, Vec<u8>);
-
-fn start(drawing: &RandomDrawing) -> Result<Pair, String> {
-    let (mut pair, _) = Pair::fresh(drawing.memory.len() as u32)?;
-    for (offset, length, value) in &drawing.writes {
-        let refusal = pair.write(*offset, *length, *value)?;
-        if refusal != 0 {
-            return Err(format!(
-                "a write of a drawing was refused with {refusal}: {drawing:?}"
-            ));
-        }
-    }
-    Ok(pair)
-}
-
-fn in_one_run(drawing: &RandomDrawing) -> Result<(End, u32), String> {
-    let mut pair = start(drawing)?;
-    let (mut memory, mut copy) = (drawing.memory.clone(), drawing.memory.clone());
-    let total = pair.plain.left();
-    let (refusal, done) = pair.run(&mut memory, &mut copy, u32::MAX)?;
-    if refusal != 0 || u64::from(done) != total || pair.plain.left() != 0 {
-        return Err(format!(
-            "{done} positions of {total}, refusal {refusal}: {drawing:?}"
-        ));
-    }
-    Ok(((pair.image().to_vec(), memory), done))
-}
-
-fn by_allowances(
+/// Compares one drawing in every way, and answers its positions.
+fn one(
     random: &mut Random,
     drawing: &RandomDrawing,
-    most: u32,
+    others: &Others,
     counts: &mut Counts,
-) -> Result<End, String> {
-    let mut pair = start(drawing)?;
-    let (mut memory, mut copy) = (drawing.memory.clone(), drawing.memory.clone());
-    while pair.plain.left() > 0 {
-        pair.run(&mut memory, &mut copy, 1 + random.below(most))?;
-        if most > 1 && random.once_in(6) {
-            pair = carried(random, &pair)?;
-            counts.moved += 1;
+) -> Result<u32, String> {
+    let begun = Board::begin(drawing)?;
+    let mut whole = begun.clone();
+    let positions = whole.run(u32::MAX)?;
+    if u64::from(positions) != begun.pair.plain.left() || whole.pair.plain.left() != 0 {
+        return Err(format!("{positions} positions in one run"));
+    }
+    let mut single = begun.clone();
+    while single.pair.plain.left() > 0 {
+        single.run(1)?;
+    }
+    whole.is_end_of(&single)?;
+    let mut cut = begun.clone();
+    while cut.pair.plain.left() > 0 {
+        cut.run(1 + random.below(7))?;
+        if random.once_in(6) {
+            cut.carry(random, others)?;
+            counts.carried += 1;
         }
     }
-    Ok((pair.image().to_vec(), memory))
+    whole.is_end_of(&cut)?;
+    if positions <= LONGEST_CUT {
+        counts.cuts += cut_everywhere(random, begun, &whole, others)?;
+        counts.cut_everywhere += 1;
+    }
+    counts.changed += u64::from(whole.memories.plain != drawing.memory);
+    Ok(positions)
 }
 
-/// The state loaded into another coprocessor, of another size and with another drawing.
-fn carried(random: &mut Random, pair: &Pair) -> Result<Pair, String> {
-    let function = random.pick(&FUNCTIONS);
-    let other = random_drawings::drawing(random, function);
-    let mut next = start(&other)?;
-    match next.load(pair.image())? {
-        0 => Ok(next),
-        refusal => Err(format!("a saved state did not load: {refusal}")),
+/// Carries the drawing on before its first position and after every one; from each cut it also runs to the whole's end at once.
+fn cut_everywhere(
+    random: &mut Random,
+    mut board: Board,
+    whole: &Board,
+    others: &Others,
+) -> Result<u64, String> {
+    let mut cuts = 0;
+    loop {
+        board.carry(random, others)?;
+        cuts += 1;
+        let mut rest = board.clone();
+        rest.run(u32::MAX)?;
+        whole.is_end_of(&rest)?;
+        if board.pair.plain.left() == 0 {
+            return Ok(cuts);
+        }
+        board.run(1)?;
+    }
+}
+
+impl Board {
+    /// The drawing just begun.
+    fn begin(drawing: &RandomDrawing) -> Result<Board, String> {
+        let (mut pair, _) = Pair::fresh(drawing.memory.len() as u32)?;
+        for (offset, length, value) in &drawing.writes {
+            match pair.write(*offset, *length, *value)? {
+                0 => {}
+                refusal => return Err(format!("write {offset:X} was refused with {refusal}")),
+            }
+        }
+        let memories = Memories::of(&drawing.memory);
+        Ok(Board { pair, memories })
+    }
+
+    /// Runs, and answers the positions done.
+    fn run(&mut self, allowance: u32) -> Result<u32, String> {
+        match self.pair.run(&mut self.memories, allowance)? {
+            (0, done) => Ok(done),
+            (refusal, _) => Err(format!("a run was refused with {refusal}")),
+        }
+    }
+
+    /// Goes on in another coprocessor.
+    fn carry(&mut self, random: &mut Random, others: &Others) -> Result<(), String> {
+        self.pair = others.carried(random, &self.pair, &mut self.memories)?;
+        Ok(())
+    }
+
+    /// That another way of drawing has this state and memory at its end.
+    fn is_end_of(&self, other: &Board) -> Result<(), String> {
+        let is_same =
+            self.pair.image() == other.pair.image() && self.memories.plain == other.memories.plain;
+        match is_same {
+            true => Ok(()),
+            false => Err("a cut drawing differs from the whole".to_string()),
+        }
+    }
+}
+
+impl fmt::Display for Counts {
+    fn fmt(&self, lines: &mut fmt::Formatter) -> fmt::Result {
+        writeln!(
+            lines,
+            "drawings, by function 2, 3, 4, 5, 8, 9: {:?}; {} positions, {} changed memory, {} had no position",
+            self.drawings, self.positions, self.changed, self.stopped_at_once
+        )?;
+        write!(
+            lines,
+            "  {} loads into another coprocessor at random; {} drawings cut at every position, with {} such loads",
+            self.carried, self.cut_everywhere, self.cuts
+        )
     }
 }

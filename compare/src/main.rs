@@ -1,29 +1,46 @@
 //! Holds the proved code against the independent program.
 //!
-//! usage: compare [COUNT] [SEED] [DRAWINGS]
+//! usage: compare [seed=N] [leaves=N] [images=N] [drawings=N] [sequences=N] [only=N]
+//!
+//! Compares mixes, conditions and pixels (`leaves` of each at random), state images, whole drawings, and sequences
+//! of calls; left out, the numbers are 1, 1,000,000, 20,000, 10,000 and 120,000.
+//! A part of which 0 is asked is left out; `only` repeats the sequence of that number alone and tells its calls.
+//! The last line is `no difference`, or the first difference is told after `DIFFERENCE:` and the exit status is not 0.
 
+mod arguments;
 mod board;
+mod calls;
+mod damage;
 mod drawings;
+mod guarded;
+mod images;
 mod leaves;
+mod memories;
 mod mixes;
+mod others;
 mod pair;
+mod panics;
 mod pixels;
-mod registers;
+mod report;
+mod rules;
+mod sequences;
+mod set_ups;
+mod states;
 
+use arguments::Arguments;
 use model::random::Random;
+use others::Others;
 use std::process::ExitCode;
 
 fn main() -> ExitCode {
-    let numbers: Vec<u64> = std::env::args()
-        .skip(1)
-        .filter_map(|word| word.parse().ok())
-        .collect();
-    let count = numbers.first().copied().unwrap_or(1_000_000);
-    let seed = numbers.get(1).copied().unwrap_or(1);
-    let drawn = numbers.get(2).copied().unwrap_or(10_000);
-    println!("seed {seed}, {count} random cases of each kind, {drawn} drawings");
-    let mut random = Random::new(seed);
-    match all(&mut random, count, drawn) {
+    let arguments = match Arguments::of(std::env::args().skip(1)) {
+        Ok(arguments) => arguments,
+        Err(usage) => {
+            eprintln!("{usage}");
+            return ExitCode::FAILURE;
+        }
+    };
+    match panics::caught(|| all(&arguments)) {
         Ok(()) => {
             println!("no difference");
             ExitCode::SUCCESS
@@ -35,7 +52,39 @@ fn main() -> ExitCode {
     }
 }
 
-fn all(random: &mut Random, count: u64, drawn: u64) -> Result<(), String> {
+fn all(asked: &Arguments) -> Result<(), String> {
+    let seed = asked.seed;
+    // Each part has random numbers of its own, so that its size does not change those of another.
+    let random = |part: u64| Random::new(Random::new(seed).number().wrapping_sub(part));
+    let others = Others::new(&mut random(1))?;
+    if let Some(number) = asked.only {
+        println!("seed {seed}, sequence {number}");
+        let mut counts = sequences::Counts::default();
+        return sequences::one(seed, number, &others, &mut counts, true);
+    }
+    println!(
+        "seed {seed}: {} images, {} drawings, {} sequences",
+        asked.images, asked.drawings, asked.sequences
+    );
+    if asked.leaves > 0 {
+        compare_leaves(&mut random(2), asked.leaves)?;
+    }
+    if asked.images > 0 {
+        let met = images::compare(&mut random(3), asked.images, &others)?;
+        println!("{met}");
+    }
+    if asked.drawings > 0 {
+        let met = drawings::compare(&mut random(4), asked.drawings, &others)?;
+        println!("{met}");
+    }
+    if asked.sequences > 0 {
+        let met = sequences::compare(seed, asked.sequences, &others)?;
+        println!("{met}");
+    }
+    Ok(())
+}
+
+fn compare_leaves(random: &mut Random, count: u64) -> Result<(), String> {
     let met = mixes::compare(random, count)?;
     println!(
         "mixes: {} compared, {} changed the pixel",
@@ -49,20 +98,6 @@ fn all(random: &mut Random, count: u64, drawn: u64) -> Result<(), String> {
     println!(
         "pixels: {} compared ({:?} of 1, 2, 4, 8 bits), {} beyond the memory, {} changed it",
         met.compared, met.sizes, met.beyond, met.changed
-    );
-    let met = registers::compare(random, count)?;
-    println!("writes, by refusal 0 to 11: {:?}", met.writes);
-    println!("reads, by refusal 0 to 11: {:?}", met.reads);
-    println!("fresh states, by refusal 0 to 11: {:?}", met.fresh);
-    println!(
-        "calls with a drawing in hand: {}; damaged images that loaded and that were refused with 10: {:?}",
-        met.started, met.images
-    );
-    let met = drawings::compare(random, drawn)?;
-    println!("drawings, by function 2, 3, 4, 5, 8, 9: {:?}", met.drawings);
-    println!(
-        "  {} positions, {} changed memory, {} had no position, {} loads into another coprocessor",
-        met.positions, met.changed, met.stopped_at_once, met.moved
     );
     Ok(())
 }

@@ -1,127 +1,143 @@
 //! A state held twice, by the proved code and by the independent program, and compared after every call.
 
 use crate::board::{self, IMAGE};
-use model::random::Random;
+use crate::guarded::Guarded;
+use crate::memories::Memories;
+use model::image;
+use model::refusals::{Refusal, NONE};
 use model::Coprocessor;
-
-const GUARD: usize = 16;
-const GUARD_BYTE: u8 = 0xA5;
+use std::fmt::Debug;
 
 /// The two states: the image of the proved code between guard bytes, and the record of the independent program.
+#[derive(Clone, Debug)]
 pub struct Pair {
-    guarded: Vec<u8>,
+    image: Guarded,
     pub plain: Coprocessor,
 }
 
 impl Pair {
-    /// A fresh state of both.
+    /// A fresh state of both, and the answer.
     pub fn fresh(size: u32) -> Result<(Pair, u32), String> {
-        let mut guarded = vec![GUARD_BYTE; IMAGE + 2 * GUARD];
-        let said = board::fresh(&mut guarded[GUARD..GUARD + IMAGE], size);
-        let (plain, right) = Coprocessor::fresh(size);
-        let pair = Pair { guarded, plain };
-        pair.agree("fresh", &[size], said, right)?;
-        Ok((pair, right))
+        let (plain, _) = Coprocessor::fresh(1);
+        let image = Guarded::of(&[0; IMAGE]);
+        let mut pair = Pair { image, plain };
+        let refusal = pair.renew(size)?;
+        Ok((pair, refusal))
     }
 
-    /// The state that an image is, in both, whether it loads or not: the answer.
-    pub fn load(&mut self, image: &[u8]) -> Result<u32, String> {
-        let said = board::load(image);
+    /// Makes both fresh, whatever they were: the answer.
+    pub fn renew(&mut self, size: u32) -> Result<u32, String> {
+        let said = board::fresh(self.image.bytes_mut(), size);
+        let (plain, right) = Coprocessor::fresh(size);
+        self.plain = plain;
+        self.agree("fresh", &[size], said, right)?;
+        Ok(right)
+    }
+
+    /// The state of an image, in both, if it loads: the answer.
+    ///
+    /// A refused image is refused by every call, which leaves it; the memories are what its run is lent.
+    pub fn load(&mut self, image: &[u8], memories: &mut Memories) -> Result<u32, String> {
+        let mut lent = Guarded::of(image);
+        let said = board::load(lent.bytes_mut());
         let right = self.plain.load(image);
-        if said == 0 {
-            self.guarded[GUARD..GUARD + IMAGE].copy_from_slice(image);
+        if lent.bytes() != image || !lent.are_guards_kept() {
+            return Err(format!("load changed the image {image:02X?}"));
         }
-        self.agree("load", &[], said, right)?;
+        if said == NONE {
+            self.image.take(image);
+        }
+        self.agree("load", &[], said, right)
+            .and_then(|()| match right {
+                NONE => Ok(()),
+                _ => refused_by_every_call(image, memories),
+            })
+            .map_err(|difference| format!("{difference}\nimage {image:02X?}"))?;
         Ok(right)
     }
 
     /// A write in both: the answer.
     pub fn write(&mut self, offset: u32, length: u32, value: u32) -> Result<u32, String> {
-        let said = board::write(self.image_mut(), offset, length, value);
+        let said = board::write(self.image.bytes_mut(), offset, length, value);
         let right = self.plain.write(offset, length, value);
         self.agree("write", &[offset, length, value], said, right)?;
         Ok(right)
     }
 
-    /// A read in both: the answer.
-    pub fn read(&mut self, offset: u32, length: u32) -> Result<u32, String> {
-        let said = board::read(self.image(), offset, length);
+    /// A read in both: the refusal and the value.
+    pub fn read(&mut self, offset: u32, length: u32) -> Result<(u32, u32), String> {
+        let said = board::read(self.image.bytes_mut(), offset, length);
         let right = self.plain.read(offset, length);
         self.agree("read", &[offset, length], said, right)?;
-        Ok(right.0)
-    }
-
-    /// A run in both, on memories with the same bytes: the answer and the positions done.
-    pub fn run(
-        &mut self,
-        proved: &mut [u8],
-        plain: &mut [u8],
-        allowance: u32,
-    ) -> Result<(u32, u32), String> {
-        let said = board::run(self.image_mut(), proved, allowance);
-        let right = self.plain.run(plain, allowance);
-        self.agree("run", &[allowance], said, right)?;
-        if proved != plain {
-            return Err(format!(
-                "run {allowance}: the memories differ\n{:?}",
-                self.plain
-            ));
-        }
         Ok(right)
     }
 
-    /// An image with some bytes changed: whether it still loads, and that a refused one is refused by every call and stays.
-    pub fn damaged(&self, random: &mut Random) -> Result<bool, String> {
-        let mut image = self.image().to_vec();
-        for _ in 0..1 + random.below(2) {
-            let place = random.below(IMAGE as u32) as usize;
-            image[place] = if random.once_in(2) {
-                random.word() as u8
-            } else {
-                image[place] ^ (1 << random.below(8))
-            };
-        }
-        let said = board::load(&image);
-        let right = self.plain.clone().load(&image);
-        let mut kept = image.clone();
-        let refused = right == 0
-            || (board::write(&mut kept, 0x50, 4, 1) == right
-                && board::read(&kept, 0x50, 4) == (right, 0)
-                && board::run(&mut kept, &mut [0], 1) == (right, 0)
-                && kept == image);
-        if said != right || !refused {
-            return Err(format!("damaged image: {said} for {right}\n{image:X?}"));
-        }
-        Ok(right == 0)
+    /// A run in both: the refusal and the positions done.
+    pub fn run(&mut self, memories: &mut Memories, allowance: u32) -> Result<(u32, u32), String> {
+        let proved = memories.proved.bytes_mut();
+        let said = board::run(self.image.bytes_mut(), proved, allowance);
+        let right = self.plain.run(&mut memories.plain, allowance);
+        self.agree("run", &[allowance], said, right)?;
+        memories
+            .agree()
+            .map_err(|difference| format!("run {allowance:X}: {difference}\n{:?}", self.plain))?;
+        Ok(right)
+    }
+
+    /// The image that both save.
+    pub fn save(&self) -> Result<Vec<u8>, String> {
+        let mut image = vec![0; IMAGE];
+        let saved = self.plain.save(&mut image);
+        self.agree("save", &[], (NONE, self.image()), (saved, &image))?;
+        Ok(image)
     }
 
     /// The image of the state, as the proved code keeps it.
     pub fn image(&self) -> &[u8] {
-        &self.guarded[GUARD..GUARD + IMAGE]
+        self.image.bytes()
     }
 
-    fn image_mut(&mut self) -> &mut [u8] {
-        &mut self.guarded[GUARD..GUARD + IMAGE]
-    }
-
-    fn agree<A: PartialEq + std::fmt::Debug>(
+    /// That both answered the same and have the same image, and that no guard byte was touched.
+    fn agree<A: PartialEq + Debug>(
         &self,
         call: &str,
         arguments: &[u32],
         said: A,
         right: A,
     ) -> Result<(), String> {
-        let mut image = vec![0; IMAGE];
-        let saved = self.plain.save(&mut image);
-        let (before, after) = (&self.guarded[..GUARD], &self.guarded[GUARD + IMAGE..]);
-        let guards = before.iter().chain(after).all(|byte| *byte == GUARD_BYTE);
-        if said == right && saved == 0 && image == self.image() && guards {
+        let image = image::of(&self.plain);
+        let guards = self.image.are_guards_kept();
+        if said == right && image == self.image() && guards {
             return Ok(());
         }
+        let differing: Vec<usize> = (0..IMAGE)
+            .filter(|at| self.image()[*at] != image[*at])
+            .collect();
         Err(format!(
-            "{call} {arguments:X?}: {said:?} for {right:?}, image equal: {}, guards kept: {guards}\n{:?}",
-            image == self.image(),
+            "{call} {arguments:X?}: {said:?} for {right:?}, image differs at {differing:?}, guards kept: {guards}\n{:?}",
             self.plain
         ))
     }
+}
+
+/// That an image which does not load is refused with 10 by every call, before any other number, and stays.
+fn refused_by_every_call(image: &[u8], memories: &mut Memories) -> Result<(), String> {
+    let refusal = Refusal::Image.number();
+    let mut lent = Guarded::of(image);
+    let written = board::write(lent.bytes_mut(), 0x50, 4, 1);
+    let misplaced = board::write(lent.bytes_mut(), 0x51, 4, 1);
+    let read = board::read(lent.bytes_mut(), 0x50, 4);
+    let run = board::run(lent.bytes_mut(), memories.proved.bytes_mut(), 9);
+    let fresh = match image.len() {
+        IMAGE => refusal,
+        _ => board::fresh(lent.bytes_mut(), 64),
+    };
+    let answers = [written, misplaced, read.0, run.0, fresh];
+    let is_kept = lent.bytes() == image && lent.are_guards_kept();
+    if answers != [refusal; 5] || read.1 != 0 || run.1 != 0 || !is_kept {
+        return Err(format!(
+            "a refused image: write {written}, misplaced write {misplaced}, read {read:?}, run {run:?}, fresh {fresh}, image kept: {is_kept}"
+        ));
+    }
+    memories.agree()
 }

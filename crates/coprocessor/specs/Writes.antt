@@ -17,6 +17,7 @@ use Rattle.rules.specs.Starts.{sourceStarted, patternStarted, drawingStarted}
 use Rattle.coprocessor.specs.declared.Coprocessor.{Coprocessor}
 use Rattle.coprocessor.specs.declared.Written.{Written}
 use Rattle.coprocessor.specs.Valid.{startRefusalOf, validOf}
+use Rattle.coprocessor.specs.Runs.{withPen}
 
 -- 01, Registers: each register takes the bytes that the write covers, then is reduced; 14 to 1C are those of the selected map
 unfoldable pub merged : Write → Coprocessor → Coprocessor
@@ -49,25 +50,14 @@ startsBy w c =
 -- 01, Maps and pointers: used pointers are turned into their maps; 01, Registers: the drawing in hand, by as many codes as the write has bytes
 unfoldable pub started : ℕ → Coprocessor → Coprocessor
 started length c =
-    record {
-      size = c .size;
-      index = c .index;
-      maps = c .maps;
-      terms = c .terms;
-      steps = c .steps;
-      foreground = c .foreground;
-      background = c .background;
-      compare = c .compare;
-      planes = c .planes;
-      carries = c .carries;
-      dimensions = c .dimensions;
-      origin = c .origin;
+    withPen c
+    (record {
       source = sourceStarted (c .operations) (c .maps) (c .source);
       pattern = patternStarted (c .operations) (c .maps) (c .pattern);
       destination = c .destination;
-      operations = c .operations;
+      e = c .terms .e;
       drawing = drawingStarted (c .operations) (c .steps) length;
-    }
+    })
 
 -- 01, Numbers a call answers with: 5 to 8 are asked at a start only, of the registers after the write
 unfoldable pub startedRefusal : Write → Coprocessor → Refusal

@@ -72,7 +72,7 @@ impl Coprocessor {
     }
 
     // The record with what a drawing changed.
-    fn with_pen(self, pen: Pen) -> Coprocessor
+    pub(crate) fn with_pen(self, pen: Pen) -> Coprocessor
         ensures { λ r. ⌜ r ≡ withPen self pen ⌝ }
     {
         let maps = self.maps;

@@ -2,6 +2,7 @@ ghost use mathlib.Core.Path.{_≡_};
 ghost use Prim.Native.Nat.{_≤_};
 ghost use Rattle.coprocessor.specs.Writes.{startsBy, started, startedRefusal, settledBy};
 use crate::Coprocessor;
+use moves::Pen;
 use numbers::bytes::Write;
 use parts::latches::touches;
 use parts::refusals::Refusal;
@@ -48,36 +49,17 @@ impl Coprocessor {
         let maps = self.maps;
         let source = self.source;
         let pattern = self.pattern;
-        let operations = self.operations;
-        let drawing = start_drawing(operations, self.steps, length);
-        let turned = start_source(operations, maps, source);
-        let tiled = start_pattern(operations, maps, pattern);
-        let terms = self.terms;
-        let foreground = self.foreground;
-        let background = self.background;
-        let compare = self.compare;
-        let dimensions = self.dimensions;
-        let origin = self.origin;
         let destination = self.destination;
-        Coprocessor {
-            size: self.size,
-            index: self.index,
-            maps,
-            terms,
-            steps: self.steps,
-            foreground,
-            background,
-            compare,
-            planes: self.planes,
-            carries: self.carries,
-            dimensions,
-            origin,
-            source: turned,
-            pattern: tiled,
+        let terms = self.terms;
+        let operations = self.operations;
+        let pen = Pen {
+            source: start_source(operations, maps, source),
+            pattern: start_pattern(operations, maps, pattern),
             destination,
-            operations,
-            drawing,
-        }
+            e: terms.e,
+            drawing: start_drawing(operations, self.steps, length),
+        };
+        self.with_pen(pen)
     }
 
     // The record that an accepted write leaves, from the one with its registers stored.

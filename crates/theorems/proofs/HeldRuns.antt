@@ -1,4 +1,4 @@
--- A run keeps the bounds of a record's fields: it changes none of them.
+-- What a drawing changes, the bounds of a record's fields do not speak of; so a run keeps them.
 use mathlib.Core.List.{List}
 use Prim.Native.Nat.{ℕ}
 use Rattle.parts.specs.Refusals.{isAccepted}
@@ -9,7 +9,7 @@ use Rattle.coprocessor.specs.Runs.{withPen, runRefusal, runAnswer}
 use Rattle.theorems.specs.Held.{Held}
 use Rattle.theorems.proofs.Choices.{by-test}
 
-held-pen : (c : Coprocessor) (pen : Pen) → Held c → Held (withPen c pen)
+pub held-pen : (c : Coprocessor) (pen : Pen) → Held c → Held (withPen c pen)
 unfolding withPen
 held-pen c pen h =
     record {

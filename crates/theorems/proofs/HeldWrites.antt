@@ -15,6 +15,7 @@ use Rattle.theorems.specs.Held.{Held}
 use Rattle.coprocessor.specs.Writes.{merged, started, writeAnswer}
 use Rattle.theorems.proofs.AcceptedWrites.{by-write}
 use Rattle.theorems.proofs.MapsLaws.{map-either}
+use Rattle.theorems.proofs.HeldRuns.{held-pen}
 
 pub held-fresh : (size : ℕ) → Held (freshOf size)
 unfolding freshOf mapAt
@@ -53,20 +54,7 @@ held-merged w c h =
 -- a start changes none of them
 held-started : (length : ℕ) (c : Coprocessor) → Held c → Held (started length c)
 unfolding started
-held-started length c h =
-    record {
-      four = h .four;
-      bases = h .bases;
-      steps = h .steps;
-      foreground-mix = h .foreground-mix;
-      background-mix = h .background-mix;
-      compare-value = h .compare-value;
-      planes = h .planes;
-      carries = h .carries;
-      foreground-colour = h .foreground-colour;
-      background-colour = h .background-colour;
-      operations = h .operations;
-    }
+held-started length c h = held-pen c _ h
 
 pub held-written : (w : Write) (c : Coprocessor) → Held c → Held (writeAnswer w c .coprocessor)
 held-written w c h =

@@ -21,6 +21,7 @@ use Rattle.coprocessor.specs.declared.Coprocessor.{Coprocessor}
 use Rattle.coprocessor.specs.Valid.{validOf}
 use Rattle.theorems.specs.Held.{Held}
 use Rattle.coprocessor.specs.Writes.{merged, startsBy, started, settledBy, writeRefusal, writeAnswer}
+use Rattle.coprocessor.specs.Runs.{withPen}
 use Rattle.theorems.specs.ReadBack.{registerAt, shown, storedOf, selecting, Selected}
 use Rattle.coprocessor.proofs.PlaceLaws.{placed-known}
 use Rattle.theorems.proofs.AcceptedWrites.{accepted-allowed, by-write}
@@ -131,7 +132,7 @@ index-written w c held accepted touches =
 -- ---- the other maps
 
 pub maps-stay : (w : Write) (c : Coprocessor) (j : ℕ) → j < 4 → (j ≡ c .index % 4 → ⊥) → mapAt (writeAnswer w c .coprocessor .maps) j ≡ mapAt (c .maps) j
-unfolding started
+unfolding started withPen
 maps-stay w c j h other =
     let apart = map-other w c j (λ e. other (omega arith)) in
     by-write w c (λ (d : Coprocessor). mapAt (d .maps) j ≡ mapAt (c .maps) j) (λ refused. refl) (λ accepted none. apart) (λ accepted starts. apart)

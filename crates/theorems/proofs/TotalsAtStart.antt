@@ -17,11 +17,12 @@ use Rattle.rules.proofs.TotalLaws.{left-started, left-some, left-idle}
 use Rattle.coprocessor.specs.declared.Coprocessor.{Coprocessor}
 use Rattle.coprocessor.specs.Valid.{goesOn, validOf}
 use Rattle.coprocessor.specs.Writes.{merged, startsBy, started, settledBy, writeRefusal, writeAnswer}
+use Rattle.coprocessor.specs.Runs.{withPen}
 use Rattle.theorems.specs.Totals.{totalIn, leftIn}
 
 pub start-total : (w : Write) (c : Coprocessor) → isAccepted (writeRefusal w c) ≡ true → startsBy w (merged w c) ≡ true
     → leftIn (writeAnswer w c .coprocessor) ≡ totalIn (writeAnswer w c .coprocessor)
-unfolding started settledBy writeAnswer
+unfolding started withPen settledBy writeAnswer
 start-total w c accepted starts =
     rw (accepted, starts) (left-started (merged w c .operations) (merged w c .dimensions) (merged w c .steps) (w .length))
 

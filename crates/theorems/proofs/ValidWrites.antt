@@ -20,6 +20,7 @@ use Rattle.coprocessor.specs.declared.Coprocessor.{Coprocessor}
 use Rattle.coprocessor.specs.Fresh.{sizeHolds}
 use Rattle.coprocessor.specs.Valid.{startRefusalOf, mapsReduced, pointersReduced, reducedOf, goesOn, validOf}
 use Rattle.coprocessor.specs.Writes.{merged, started, writeAnswer}
+use Rattle.coprocessor.specs.Runs.{withPen}
 use Rattle.theorems.proofs.MapsLaws.{map-reduced, map-either}
 use Rattle.theorems.proofs.AcceptedWrites.{accepted-allowed, by-write, start-draws, start-rules}
 
@@ -55,7 +56,7 @@ idle-goes-on c idle = rw idle
 -- ---- the record with a drawing started
 
 started-reduced : (length : ℕ) (c : Coprocessor) → reducedOf c ≡ true → reducedOf (started length c) ≡ true
-unfolding started pointersReduced reducedOf
+unfolding started withPen pointersReduced reducedOf
 started-reduced length c e =
     let source : pointReduced (c .source) ≡ true = search (e, and-l, and-r) in
     let pattern : pointReduced (c .pattern) ≡ true = search (e, and-l, and-r) in
@@ -64,7 +65,7 @@ started-reduced length c e =
 
 started-goes-on : (length : ℕ) (c : Coprocessor) → draws (c .operations) ≡ true → (eqb length 1 || eqb length 2 || eqb length 4) ≡ true
     → isAccepted (startRefusalOf c) ≡ true → goesOn (started length c) ≡ true
-unfolding started startRefusalOf goesOn
+unfolding started withPen startRefusalOf goesOn
 started-goes-on length c drawing counted rules =
     let counters = counters-started (c .operations) (c .dimensions) (c .steps) length drawing counted in
     let pointers = pointers-started (c .operations) (c .maps) (c .source) (c .pattern) in
@@ -77,7 +78,7 @@ unfolding validOf
 valid-by c size reduced going = rw (size, reduced, going)
 
 pub write-valid : (w : Write) (c : Coprocessor) → validOf c ≡ true → validOf (writeAnswer w c .coprocessor) ≡ true
-unfolding placed validOf merged started
+unfolding placed validOf merged started withPen
 write-valid w c valid =
     by-write w c (λ (d : Coprocessor). validOf d ≡ true) (λ refused. valid)
     (λ accepted none. valid-by (merged w c) size reduced (idle-goes-on (merged w c) (accepted-allowed w c accepted .idle)))

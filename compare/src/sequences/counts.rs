@@ -1,0 +1,109 @@
+//! What sequences of calls met.
+
+use crate::report;
+use model::operations::Kind;
+use model::random_drawings::FUNCTIONS;
+use model::registers::{OPERATIONS_START, STEPS_START};
+use model::Coprocessor;
+use std::fmt;
+
+/// The kinds of calls.
+#[derive(Clone, Copy, Debug)]
+pub enum Call {
+    Fresh,
+    Write,
+    Read,
+    Run,
+    Save,
+    Load,
+}
+
+/// Each kind of call, and the numbers that it can answer with on a state that calls made.
+const CALLS: [(&str, &[usize]); 6] = [
+    ("fresh states", &[0, 9]),
+    ("writes", &[0, 1, 2, 3, 4, 5, 6, 7, 8]),
+    ("reads", &[0, 1, 3]),
+    ("runs", &[0, 9]),
+    ("saves", &[0]),
+    ("loads", &[0, 10]),
+];
+
+const NUMBERS: [&str; 12] = [
+    "accepted", "1", "2", "3", "4", "5", "6", "7", "8", "9", "10", "11",
+];
+
+/// What sequences met.
+#[derive(Default)]
+pub struct Counts {
+    pub sequences: u64,
+    /// By kind of call and number answered.
+    pub calls: [[u64; 12]; 6],
+    pub positions: u64,
+    /// Runs that did positions, and those of them after which the memory was another.
+    pub runs: [u64; 2],
+    pub carried: u64,
+    functions: [u64; 6],
+    pixel_sizes: [u64; 4],
+    drawing_modes: [u64; 4],
+    mask_modes: [u64; 3],
+}
+
+impl Counts {
+    /// Counts an accepted write by the drawing that it started, if it did.
+    pub fn note_start(&mut self, state: &Coprocessor, offset: u32, length: u32) {
+        let fields = state.registers.fields();
+        let starting_byte = match fields.kind() {
+            Some(Kind::Codes) => STEPS_START,
+            _ => OPERATIONS_START,
+        };
+        let is_started = (offset..offset + length).contains(&starting_byte);
+        let function = FUNCTIONS.iter().position(|one| *one == fields.function);
+        if let Some(function) = function.filter(|_| is_started) {
+            let format = state.registers.map(fields.destination).format;
+            self.functions[function] += 1;
+            self.pixel_sizes[usize::from(format)] += 1;
+            self.drawing_modes[fields.drawing_mode as usize] += 1;
+            self.mask_modes[fields.mask as usize] += 1;
+        }
+    }
+
+    /// A number that some call can answer with and none did.
+    pub fn never_met(&self) -> Option<String> {
+        CALLS
+            .iter()
+            .zip(&self.calls)
+            .find_map(|((name, numbers), times)| {
+                let never = numbers.iter().find(|number| times[**number] == 0)?;
+                Some(format!("none of the {name} answered with {never}"))
+            })
+    }
+}
+
+impl fmt::Display for Counts {
+    fn fmt(&self, lines: &mut fmt::Formatter) -> fmt::Result {
+        let calls: u64 = self.calls.iter().flatten().sum();
+        write!(
+            lines,
+            "sequences: {}, of {calls} calls; {} positions in {} runs, of which {} changed memory; {} loads into another coprocessor",
+            self.sequences, self.positions, self.runs[0], self.runs[1], self.carried
+        )?;
+        for ((name, _), times) in CALLS.iter().zip(&self.calls) {
+            write!(lines, "{}", report::met(name, &NUMBERS, times))?;
+        }
+        let starts: [(&str, &[&str], &[u64]); 4] = [
+            ("function", &["2", "3", "4", "5", "8", "9"], &self.functions),
+            ("bits of a pixel", &["1", "2", "4", "8"], &self.pixel_sizes),
+            (
+                "drawing mode",
+                &["00", "01", "10", "11"],
+                &self.drawing_modes,
+            ),
+            ("mask mode", &["00", "01", "10"], &self.mask_modes),
+        ];
+        for (field, names, times) in starts {
+            let title = format!("starts by {field}");
+            write!(lines, "{}", report::met(&title, names, times))?;
+        }
+        Ok(())
+    }
+}
