@@ -1,16 +1,17 @@
 # bench: plays lines on the bench program.   test: the whole gate.   compare: the proved code against the independent program.
 # speed: the proved code beside plain Rust.   picture: a motif in target/picture.pgm.   example: the sample line from C.
-COUNT ?= 130000
+COUNT ?= 120000
 SEED ?= 1
 DRAWINGS ?= 10000
 IMAGES ?= 20000
+INPUT ?= crates/bench/stdin
 
 .PHONY: bench test compare speed picture example library
 
 bench:
 	@mkdir -p target
 	@rt check bench > target/bench.log 2>&1 || { cat target/bench.log; exit 1; }
-	@target/bin/bench < $(or $(LINES),crates/bench/stdin)
+	@target/bin/bench < $(INPUT)
 
 test:
 	.ci/run

@@ -1,5 +1,4 @@
 -- Whether a record is the one that its own image loads to: the image rules, on the record.
-use Prim.Native.Nat.{ℕ}
 use mathlib.Core.Bool.{Bool, not, _&&_, _||_}
 use mathlib.Core.List.{List}
 use lib.Dec.{ltb}

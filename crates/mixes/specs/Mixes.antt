@@ -1,6 +1,6 @@
 -- The mixes of a source and a destination pixel of n bits, and the plane mask. Every number counts by its n low bits.
 use Prim.Native.Nat.{ℕ, zero, suc, _+_, _-_, _*_, _/_, _%_, _^_, min, max}
-use mathlib.Core.List.{List, [], _∷_}
+use mathlib.Core.List.{[], _∷_}
 use lib.ListN.{getD}
 use lib.Dec.{ltb, eqb}
 use Rattle.numbers.specs.Choose.{choose}

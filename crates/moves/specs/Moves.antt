@@ -127,6 +127,7 @@ moved s pen = movedBy s (pen .drawing) pen
 
 -- the pen come this way: its used pointers stepped, past a row's end, or as it is with another drawing in hand
 unfoldable pub gone : Setup → Way → Pen → Pen
-gone s (Along from to e drawing) pen = penStepped s from to e drawing pen
+gone s (Along fromX fromY toX toY e drawing) pen =
+    penStepped s (record { x = fromX; y = fromY }) (record { x = toX; y = toY }) e drawing pen
 gone s (Row drawing) pen = rowPassed s drawing pen
 gone s (Here drawing) pen = penWith drawing pen

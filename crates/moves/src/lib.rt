@@ -47,10 +47,13 @@ pub struct Flow {
 }
 
 // How the pen comes to the next position: along a step, over a row's end, or not at all; and the drawing in hand there.
+// Along a step, source and pattern go by `from` and the destination by `to`.
 pub enum Way {
     Along {
-        from: Step,
-        to: Step,
+        from_x: Turn,
+        from_y: Turn,
+        to_x: Turn,
+        to_y: Turn,
         e: i32,
         drawing: Drawing,
     },

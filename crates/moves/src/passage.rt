@@ -16,11 +16,13 @@ pub fn next(setup: Setup, pen: Pen) -> Pen
     let way = way_of(setup, pen);
     match way {
         Way::Along {
-            from,
-            to,
+            from_x,
+            from_y,
+            to_x,
+            to_y,
             e,
             drawing,
-        } => step_pen(setup, from, to, e, drawing, pen),
+        } => step_pen(setup, from_x, from_y, to_x, to_y, e, drawing, pen),
         Way::Row { drawing } => pass_row(setup, drawing, pen),
         Way::Here { drawing } => pen_with(drawing, pen),
     }

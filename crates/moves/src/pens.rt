@@ -5,46 +5,54 @@ ghost use Rattle.moves.specs.Moves as defined;
 use crate::Course;
 use crate::Pen;
 use crate::Setup;
-use crate::Step;
 use crate::Turn;
 use crate::turns::circle_by;
 use crate::turns::opposite;
-use crate::turns::step_point;
-use crate::turns::step_spot;
 use crate::turns::turn_by;
 use crate::turns::turn_once;
 use parts::drawing::Drawing;
 use parts::shapes::Point;
 use parts::shapes::Spot;
-use pixels::Map;
 
-// A pointer after one step in its map, where the map is used.
-fn step_used(used: bool, map: Map, step: Step, p: Point) -> Point
-    ensures { λ r. ⌜ r ≡ choose used (turned.pointStepped map step p) p ⌝ }
+// One step of a pointer in a map that ends at `last`, where the map is used.
+fn turn_used(used: bool, turn: Turn, last: u16, x: u16) -> u16
+    ensures { λ r. ⌜ r ≡ choose used (turned.turnedBy turn 1 last x) x ⌝ }
 {
-    if used { step_point(map, step, p) } else { p }
+    if used { turn_once(turn, last, x) } else { x }
 }
 
-// The pen with its used pointers stepped, source and pattern by `from` and the destination by `to`.
+// The pen with its used pointers stepped, source and pattern by `from` and the destination by `to`. Each pointer's two
+// parts go by themselves, so that a loop over positions need not pack them.
 pub(crate) fn step_pen(
     setup: Setup,
-    from: Step,
-    to: Step,
+    from_x: Turn,
+    from_y: Turn,
+    to_x: Turn,
+    to_y: Turn,
     e: i32,
     drawing: Drawing,
     pen: Pen,
 ) -> Pen
-    ensures { λ r. ⌜ r ≡ defined.penStepped setup from to e drawing pen ⌝ }
+    ensures { λ r.
+        ⌜ r ≡ defined.penStepped setup (record { x = «from_x»; y = «from_y» }) (record { x = «to_x»; y = «to_y» }) e drawing pen ⌝ }
 {
-    let source_map = setup.source;
-    let pattern_map = setup.pattern;
-    let source = pen.source;
-    let pattern = pen.pattern;
-    let destination = pen.destination;
+    let flow = setup.flow;
+    let source = Point {
+        x: turn_used(flow.source, from_x, setup.source.width, pen.source.x),
+        y: turn_used(flow.source, from_y, setup.source.height, pen.source.y),
+    };
+    let pattern = Point {
+        x: turn_used(flow.pattern, from_x, setup.pattern.width, pen.pattern.x),
+        y: turn_used(flow.pattern, from_y, setup.pattern.height, pen.pattern.y),
+    };
+    let destination = Spot {
+        x: circle_by(to_x, 1, pen.destination.x),
+        y: circle_by(to_y, 1, pen.destination.y),
+    };
     Pen {
-        source: step_used(setup.flow.source, source_map, from, source),
-        pattern: step_used(setup.flow.pattern, pattern_map, from, pattern),
-        destination: step_spot(to, destination),
+        source,
+        pattern,
+        destination,
         e,
         drawing,
     }
@@ -54,9 +62,18 @@ pub(crate) fn step_pen(
 pub fn pen_with(drawing: Drawing, pen: Pen) -> Pen
     ensures { λ r. ⌜ r ≡ defined.penWith drawing pen ⌝ }
 {
-    let source = pen.source;
-    let pattern = pen.pattern;
-    let destination = pen.destination;
+    let source = Point {
+        x: pen.source.x,
+        y: pen.source.y,
+    };
+    let pattern = Point {
+        x: pen.pattern.x,
+        y: pen.pattern.y,
+    };
+    let destination = Spot {
+        x: pen.destination.x,
+        y: pen.destination.y,
+    };
     Pen {
         source,
         pattern,
@@ -66,24 +83,18 @@ pub fn pen_with(drawing: Drawing, pen: Pen) -> Pen
     }
 }
 
-// A source or pattern pointer after a row.
-fn row_point(setup: Setup, map: Map, p: Point) -> Point
-    ensures { λ r. ⌜ r ≡ defined.rowPoint setup map p ⌝ }
+// The X of a source or pattern pointer after a row, where the map is used.
+fn return_used(used: bool, setup: Setup, last: u16, x: u16) -> u16
+    ensures { λ r.
+        ⌜ r ≡ choose used (turned.turnedBy (turned.opposite (setup .course .x)) (setup .dimensions .x) last x) x ⌝ }
 {
     let course = setup.course;
     let across = course.x;
-    let down = course.y;
-    Point {
-        x: turn_by(opposite(across), setup.dimensions.x, map.width, p.x),
-        y: turn_once(down, map.height, p.y),
+    if used {
+        turn_by(opposite(across), setup.dimensions.x, last, x)
+    } else {
+        x
     }
-}
-
-// The same, where the map is used.
-fn row_used(used: bool, setup: Setup, map: Map, p: Point) -> Point
-    ensures { λ r. ⌜ r ≡ choose used (defined.rowPoint setup map p) p ⌝ }
-{
-    if used { row_point(setup, map, p) } else { p }
 }
 
 // The turn in Y of the destination, which goes the other way in an inverting block.
@@ -94,31 +105,38 @@ fn destination_down(course: Course) -> Turn
     if course.inverts { opposite(down) } else { down }
 }
 
-// The destination pointer after a row.
-fn row_spot(setup: Setup, p: Spot) -> Spot
-    ensures { λ r. ⌜ r ≡ defined.rowSpot setup p ⌝ }
+// The destination's X after a row.
+fn return_by(setup: Setup, x: i16) -> i16
+    ensures { λ r. ⌜ r ≡ turned.circledBy (turned.opposite (setup .course .x)) (setup .dimensions .x) x ⌝ }
 {
     let course = setup.course;
     let across = course.x;
-    Spot {
-        x: circle_by(opposite(across), setup.dimensions.x, p.x),
-        y: circle_by(destination_down(course), 1, p.y),
-    }
+    circle_by(opposite(across), setup.dimensions.x, x)
 }
 
 // The pen after a row.
 pub(crate) fn pass_row(setup: Setup, drawing: Drawing, pen: Pen) -> Pen
     ensures { λ r. ⌜ r ≡ defined.rowPassed setup drawing pen ⌝ }
 {
-    let source_map = setup.source;
-    let pattern_map = setup.pattern;
-    let source = pen.source;
-    let pattern = pen.pattern;
-    let destination = pen.destination;
+    let flow = setup.flow;
+    let course = setup.course;
+    let down = course.y;
+    let source = Point {
+        x: return_used(flow.source, setup, setup.source.width, pen.source.x),
+        y: turn_used(flow.source, down, setup.source.height, pen.source.y),
+    };
+    let pattern = Point {
+        x: return_used(flow.pattern, setup, setup.pattern.width, pen.pattern.x),
+        y: turn_used(flow.pattern, down, setup.pattern.height, pen.pattern.y),
+    };
+    let destination = Spot {
+        x: return_by(setup, pen.destination.x),
+        y: circle_by(destination_down(course), 1, pen.destination.y),
+    };
     Pen {
-        source: row_used(setup.flow.source, setup, source_map, source),
-        pattern: row_used(setup.flow.pattern, setup, pattern_map, pattern),
-        destination: row_spot(setup, destination),
+        source,
+        pattern,
+        destination,
         e: pen.e,
         drawing,
     }

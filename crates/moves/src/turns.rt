@@ -2,7 +2,6 @@ ghost use mathlib.Core.Path.{_≡_};
 ghost use Prim.Native.Nat.{_+_};
 ghost use Rattle.numbers.specs.Circles.{forth, back};
 ghost use Rattle.moves.specs.Turns as defined;
-use crate::Step;
 use crate::Turn;
 use numbers::circles::destination_back;
 use numbers::circles::destination_forth;
@@ -10,9 +9,6 @@ use numbers::circles::step_back;
 use numbers::circles::step_forth;
 use numbers::circles::steps_back;
 use numbers::circles::steps_forth;
-use parts::shapes::Point;
-use parts::shapes::Spot;
-use pixels::Map;
 
 // The other way.
 pub fn opposite(turn: Turn) -> Turn
@@ -79,29 +75,5 @@ pub fn circle_by(turn: Turn, count: u16, z: i16) -> i16
         Turn::Stay => z,
         Turn::Forth => destination_forth(z, count),
         Turn::Back => destination_back(z, count),
-    }
-}
-
-// A source or pattern pointer after one step in its map.
-pub fn step_point(map: Map, step: Step, p: Point) -> Point
-    ensures { λ r. ⌜ r ≡ defined.pointStepped map step p ⌝ }
-{
-    let across = step.x;
-    let down = step.y;
-    Point {
-        x: turn_once(across, map.width, p.x),
-        y: turn_once(down, map.height, p.y),
-    }
-}
-
-// The destination pointer after one step.
-pub fn step_spot(step: Step, p: Spot) -> Spot
-    ensures { λ r. ⌜ r ≡ defined.spotStepped step p ⌝ }
-{
-    let across = step.x;
-    let down = step.y;
-    Spot {
-        x: circle_by(across, 1, p.x),
-        y: circle_by(down, 1, p.y),
     }
 }

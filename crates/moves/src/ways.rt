@@ -16,39 +16,26 @@ use numbers::circles::term_sum;
 use parts::drawing::Drawing;
 use rules::starts::code_at;
 
-// X by +1.
-fn right() -> Step
-    ensures { λ r. ⌜ r ≡ defined.right ⌝ }
+// The first turn in a read form, and otherwise the second.
+fn turn_in(read: bool, first: Turn, second: Turn) -> Turn
+    ensures { λ r. ⌜ r ≡ choose read first second ⌝ }
 {
-    Step {
-        x: Turn::Forth,
-        y: Turn::Stay,
-    }
+    if read { first } else { second }
 }
 
-// The step of the source and the pattern: the drawing's in a read form, otherwise to the right.
-fn source_by(course: Course, step: Step) -> Step
-    ensures { λ r. ⌜ r ≡ defined.sourceBy course step ⌝ }
-{
-    let aside = right();
-    if course.read { step } else { aside }
-}
-
-// The step of the destination: to the right in a read form, otherwise the drawing's.
-fn destination_by(course: Course, step: Step) -> Step
-    ensures { λ r. ⌜ r ≡ defined.destinationBy course step ⌝ }
-{
-    let aside = right();
-    if course.read { aside } else { step }
-}
-
-// The way of one step of a line or code.
+// The way of one step of a line or code: a read form moves source and pattern by it and the destination to the right,
+// and any other the reverse.
 fn way_along(course: Course, step: Step, e: i32, drawing: Drawing) -> Way
-    ensures { λ r. ⌜ r ≡ Way.Along (defined.sourceBy course step) (defined.destinationBy course step) e drawing ⌝ }
+    ensures { λ r.
+        ⌜ r ≡ Way.Along (defined.sourceBy course step .x) (defined.sourceBy course step .y) (defined.destinationBy course step .x) (defined.destinationBy course step .y) e drawing ⌝ }
 {
+    let x = step.x;
+    let y = step.y;
     Way::Along {
-        from: source_by(course, step),
-        to: destination_by(course, step),
+        from_x: turn_in(course.read, x, Turn::Forth),
+        from_y: turn_in(course.read, y, Turn::Stay),
+        to_x: turn_in(course.read, Turn::Forth, x),
+        to_y: turn_in(course.read, Turn::Stay, y),
         e,
         drawing,
     }
@@ -149,10 +136,11 @@ fn block_way(setup: Setup, column: u16, row: u16, pen: Pen) -> Way
     let course = setup.course;
     let x = course.x;
     if column < setup.dimensions.x {
-        let step = Step { x, y: Turn::Stay };
         Way::Along {
-            from: step,
-            to: step,
+            from_x: x,
+            from_y: Turn::Stay,
+            to_x: x,
+            to_y: Turn::Stay,
             e: pen.e,
             drawing: Drawing::Block {
                 column: column + 1,

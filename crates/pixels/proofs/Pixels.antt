@@ -2,7 +2,7 @@
 use mathlib.Core.Path.{_≡_, refl}
 use mathlib.Core.List.{List}
 use mathlib.Core.Logic.{⊎-elim}
-use Prim.Native.Nat.{ℕ, _%_, _^_, _≤_, _<_}
+use Prim.Native.Nat.{ℕ, _+_, _%_, _^_, _≤_, _<_}
 use lib.ListN.{length, getD, length-set, List·getD-eq-default}
 use lib.Seq.{set-out, set-getD, getD-set-same, getD-set-other}
 use Rattle.numbers.specs.Fields.{field, withField}
@@ -10,7 +10,7 @@ use Rattle.numbers.proofs.Fields.{field-lt, field-zero, field-with-same, field-
 use Rattle.numbers.proofs.Order.{lt-or-le, eq-or-ne}
 use Rattle.pixels.specs.declared.Map.{Map}
 use Rattle.pixels.specs.Maps.{bitsOf, placeOf, shiftOf}
-use Rattle.pixels.specs.Pixels.{byteAt, pixelAt, withPixel}
+use Rattle.pixels.specs.Pixels.{byteAt, foundAt, pixelAt, withPixel}
 use Rattle.pixels.proofs.Maps.{in-byte, shifts-apart}
 
 -- ---- a pixel
@@ -19,6 +19,11 @@ module _ (memory : List ℕ) (map : Map) (x y : ℕ) where
   pub pixel-lt : pixelAt memory map x y < 2 ^ bitsOf (map .format)
   unfolding pixelAt
   pixel-lt = field-lt (shiftOf map x y) (bitsOf (map .format)) (byteAt memory map x y)
+
+  -- its bits lie within one byte
+  pub found-in-byte : foundAt memory map x y .shift + foundAt memory map x y .bits ≤ 8
+  unfolding foundAt
+  found-in-byte = in-byte map x y
 
   pub pixel-beyond : length memory ≤ placeOf map x y → pixelAt memory map x y ≡ 0
   unfolding byteAt pixelAt

@@ -2,9 +2,10 @@
 
 ghost use mathlib.Core.Path.{_≡_};
 ghost use Prim.Native.Nat.{_+_, _*_, _-_, _^_, _≤_};
+ghost use lib.ListN.{getD, set};
 ghost use Rattle.numbers.specs.Fields.{field, withField};
 ghost use Rattle.pixels.specs.Maps.{bitsOf, neededOf, placeOf, shiftOf};
-ghost use Rattle.pixels.specs.Pixels.{pixelAt, withPixel};
+ghost use Rattle.pixels.specs.Pixels.{foundAt, pixelAt, withPixel};
 
 // A pixel map: where it starts, one less than its width and height in pixels, and its format code.
 pub struct Map {
@@ -12,6 +13,14 @@ pub struct Map {
     pub width: u16,
     pub height: u16,
     pub format: u8,
+}
+
+// A pixel's bits in its byte: the byte's index, what it holds, and how far up and how many the bits are.
+pub struct Found {
+    pub at: usize,
+    pub byte: u8,
+    pub shift: u32,
+    pub bits: u32,
 }
 
 // The size of a pixel of this format, in bits.
@@ -77,23 +86,60 @@ fn replaced(byte: u8, shift: u32, bits: u32, value: u32) -> u8
     ((byte as u32) - (old << shift) + (new << shift)) as u8
 }
 
+// The byte of this index, or 0 beyond the memory.
+fn byte_at(memory: &[u8], at: usize) -> u8
+    ensures { λ r. ⌜ r ≡ getD (now (memory .entry)) at 0 ⌝ }
+{
+    if memory.len() <= at {
+        return 0;
+    }
+    memory[at]
+}
+
+// The pixel's bits in its byte.
+pub fn find(memory: &[u8], map: Map, x: u16, y: u16) -> Found
+    ensures { λ r. ⌜ r ≡ foundAt (now (memory .entry)) map x y ⌝ }
+{
+    let at = place(map, x, y);
+    Found {
+        at,
+        byte: byte_at(memory, at),
+        shift: shift(map, x, y),
+        bits: bits_of(map.format),
+    }
+}
+
+// The pixel that was found.
+pub fn value(found: Found) -> u32
+    requires { ⌜ found .shift + found .bits ≤ 8 ⌝ }
+    ensures { λ r. ⌜ r ≡ field (found .shift) (found .bits) (found .byte) ⌝ }
+{
+    taken(found.byte, found.shift, found.bits)
+}
+
+// Stores the low bits of value as the pixel that was found; where that lies beyond the memory, nothing.
+pub fn store(memory: &mut [u8], found: Found, value: u32)
+    requires { ⌜ found .shift + found .bits ≤ 8 ⌝ }
+    ensures { λ _.
+        ⌜ now (memory .exit) ≡ set (now (memory .entry)) (found .at) (withField (found .shift) (found .bits) value (found .byte)) ⌝ }
+{
+    let at = found.at;
+    if at < memory.len() {
+        memory[at] = replaced(found.byte, found.shift, found.bits, value);
+    }
+}
+
 // The pixel, or 0 where it lies beyond the memory.
 pub fn get(memory: &[u8], map: Map, x: u16, y: u16) -> u32
     ensures { λ r. ⌜ r ≡ pixelAt (now (memory .entry)) map x y ⌝ }
 {
-    let at = place(map, x, y);
-    if memory.len() <= at {
-        return 0;
-    }
-    taken(memory[at], shift(map, x, y), bits_of(map.format))
+    value(find(memory, map, x, y))
 }
 
 // Stores the low bits of value as the pixel; where that lies beyond the memory, nothing.
 pub fn put(memory: &mut [u8], map: Map, x: u16, y: u16, value: u32)
     ensures { λ _. ⌜ now (memory .exit) ≡ withPixel (now (memory .entry)) map x y value ⌝ }
 {
-    let at = place(map, x, y);
-    if at < memory.len() {
-        memory[at] = replaced(memory[at], shift(map, x, y), bits_of(map.format), value);
-    }
+    let found = find(memory, map, x, y);
+    store(memory, found, value);
 }

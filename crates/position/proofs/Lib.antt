@@ -1,4 +1,5 @@
 pub mod Choices
 pub mod Columns
 pub mod Examples
+pub mod Safety
 pub mod Writing

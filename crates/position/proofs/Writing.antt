@@ -1,6 +1,6 @@
 -- A position changes at most the byte of its destination pixel: of all fates only `Written` puts a pixel, and that one lies on the map.
 use mathlib.Core.Path.{_≡_, refl}
-use mathlib.Core.Bool.{Bool, true, false, not}
+use mathlib.Core.Bool.{Bool, true, false, not, _||_}
 use mathlib.Core.List.{List}
 use Prim.Native.Nat.{ℕ, _≤_, _<_}
 use lib.ListN.{length, getD}
@@ -10,11 +10,9 @@ use Rattle.pixels.specs.Pixels.{withPixel}
 use Rattle.pixels.proofs.Pixels.{length-put, byte-put-other, byte-put-lt}
 use Rattle.moves.specs.declared.Setup.{Setup}
 use Rattle.moves.specs.declared.Pen.{Pen}
-use Rattle.position.specs.declared.Fate.{Fate}
-use Rattle.position.specs.declared.Fate.the-variants.{Moved, Nulled, OutsideMap, OutsideMask, MaskZero, Compared, Written}
-use Rattle.position.specs.Places.{isWithin, columnOf, onMap, isMove, isNulled}
-use Rattle.position.specs.Fates.{fateOf}
-use Rattle.position.specs.Drawn.{mixedPixel, drawnBy, drawn}
+use Rattle.position.specs.Places.{isWithin, columnOf, onMap, inMask, isMove, isNulled}
+use Rattle.position.specs.Fates.{Fate, Moved, Nulled, OutsideMap, OutsideMask, MaskZero, Compared, Written, onZero, isCompared, isLeftOut, fateOf}
+use Rattle.position.specs.Drawn.{mixedPixel, writtenOf, drawnBy, drawn}
 use Rattle.position.proofs.Choices.{both-true}
 use Rattle.position.proofs.Columns.{within-column}
 
@@ -62,8 +60,23 @@ module _ (s : Setup) (memory : List ℕ) (pen : Pen) where
       by Compared e = old
       by Written e = new e
 
-  pub not-written : (fateOf s memory pen ≡ Written → ⊥) → drawn s memory pen ≡ memory
-  not-written ne = by-fate (λ (m : List ℕ). m ≡ memory) refl (λ e. absurd (ne e))
+  -- a position that is left out draws nothing, and any other what is written
+  pub drawn-in : drawn s memory pen ≡ choose (isLeftOut s memory pen) memory (writtenOf s memory pen)
+  unfolding fateOf isLeftOut writtenOf drawnBy drawn
+  drawn-in =
+      by (isMove s (pen .drawing)) (isNulled s (pen .drawing)) (not (onMap s pen)) (not (inMask s pen)) (onZero s memory pen)
+      (isCompared s memory pen)
+    where
+      by : (a b c d e f : Bool)
+          → drawnBy (choose a Moved (choose b Nulled (choose c OutsideMap (choose d OutsideMask (choose e MaskZero (choose f Compared Written)))))) s memory pen
+          ≡ choose (a || b || c || d || e) memory (choose f memory put)
+      by true b c d e f = refl
+      by false true c d e f = refl
+      by false false true d e f = refl
+      by false false false true e f = refl
+      by false false false false true f = refl
+      by false false false false false true = refl
+      by false false false false false false = refl
 
   pub length-drawn : length (drawn s memory pen) ≡ length memory
   length-drawn = by-fate (λ (m : List ℕ). length m ≡ length memory) refl (λ e. length-put memory _ _ _ _)

@@ -10,10 +10,8 @@ use Rattle.mixes.specs.Mixes.{mixed}
 use Rattle.parts.specs.declared.shapes.Ink.{Ink}
 use Rattle.moves.specs.declared.Setup.{Setup}
 use Rattle.moves.specs.declared.Pen.{Pen}
-use Rattle.position.specs.declared.Fate.{Fate}
-use Rattle.position.specs.declared.Fate.the-variants.{Moved, Nulled, OutsideMap, OutsideMask, MaskZero, Compared, Written}
 use Rattle.position.specs.Places.{columnOf}
-use Rattle.position.specs.Fates.{destinationPixel, fateOf}
+use Rattle.position.specs.Fates.{Fate, Moved, Nulled, OutsideMap, OutsideMask, MaskZero, Compared, Written, destinationPixel, isCompared, fateOf}
 
 -- 01, One position: the source pixel
 unfoldable pub sourcePixel : Setup → List ℕ → Pen → ℕ
@@ -39,6 +37,12 @@ picked s memory pen =
 unfoldable pub mixedPixel : Setup → List ℕ → Pen → ℕ
 mixedPixel s memory pen =
     mixed (bitsOf (s .destination .format)) (inkOf s memory pen .mix) (s .planes) (picked s memory pen) (destinationPixel s memory pen)
+
+-- 01, One position: memory with that pixel, unless the compare condition is true
+unfoldable pub writtenOf : Setup → List ℕ → Pen → List ℕ
+writtenOf s memory pen =
+    choose (isCompared s memory pen) memory
+    (withPixel memory (s .destination) (columnOf (pen .destination .x)) (columnOf (pen .destination .y)) (mixedPixel s memory pen))
 
 -- 01, One position: only a written position changes memory, and all its reads come before
 unfoldable pub drawnBy : Fate → Setup → List ℕ → Pen → List ℕ

@@ -1,17 +1,21 @@
 ghost use mathlib.Core.Path.{_≡_};
 ghost use Rattle.numbers.specs.Choose.{choose};
-ghost use Rattle.position.specs.Drawn.{sourcePixel, isForeground, mixedPixel, drawn};
-use crate::Fate;
-use crate::fates::destination_pixel;
-use crate::fates::fate;
+ghost use Rattle.pixels.specs.Maps.{bitsOf};
+ghost use Rattle.mixes.specs.Mixes.{mixed};
+ghost use Rattle.position.specs.Drawn as defined;
+ghost use Rattle.position.specs.Drawn.{sourcePixel, isForeground, inkOf, writtenOf, drawn};
+use crate::fates::is_compared;
+use crate::fates::is_left_out;
 use crate::places::destination_of;
 use mixes::mix;
 use moves::Pen;
 use moves::Setup;
 use parts::shapes::Ink;
 use pixels::bits_of;
+use pixels::find;
 use pixels::get;
-use pixels::put;
+use pixels::store;
+use pixels::value;
 
 // The source pixel.
 fn source_pixel(setup: Setup, memory: &[u8], pen: Pen) -> u32
@@ -67,14 +71,14 @@ fn picked(setup: Setup, memory: &[u8], pen: Pen, foreground: bool, colour: u32) 
     }
 }
 
-// The destination pixel after the mix, under the plane mask.
-fn mixed_pixel(setup: Setup, memory: &[u8], pen: Pen) -> u32
-    ensures { λ r. ⌜ r ≡ mixedPixel setup (now (memory .entry)) pen ⌝ }
+// A destination pixel after the mix, under the plane mask.
+fn mixed_pixel(setup: Setup, memory: &[u8], pen: Pen, destination: u32) -> u32
+    ensures { λ r.
+        ⌜ r ≡ mixed (bitsOf (setup .destination .format)) (inkOf setup (now (memory .entry)) pen .mix) (setup .planes) (defined.picked setup (now (memory .entry)) pen) destination ⌝ }
 {
     let foreground = is_foreground(setup, memory, pen);
     let ink = ink_of(setup, foreground);
     let source = picked(setup, memory, pen, foreground, ink.colour);
-    let destination = destination_pixel(setup, memory, pen);
     mix(
         bits_of(setup.destination.format),
         ink.mix,
@@ -84,13 +88,24 @@ fn mixed_pixel(setup: Setup, memory: &[u8], pen: Pen) -> u32
     )
 }
 
+// Writes the mix, unless the compare condition is true. The destination's byte is found and read once.
+fn write(setup: Setup, memory: &mut [u8], pen: Pen)
+    ensures { λ _. ⌜ now (memory .exit) ≡ writtenOf setup (now (memory .entry)) pen ⌝ }
+{
+    let at = destination_of(pen);
+    let found = find(memory, setup.destination, at.x, at.y);
+    let old = value(found);
+    if !is_compared(setup, old) {
+        let new = mixed_pixel(setup, memory, pen, old);
+        store(memory, found, new);
+    }
+}
+
 // Draws one position: the mix where it is written, and nothing otherwise.
 pub fn draw(setup: Setup, memory: &mut [u8], pen: Pen)
     ensures { λ _. ⌜ now (memory .exit) ≡ drawn setup (now (memory .entry)) pen ⌝ }
 {
-    if let Fate::Written = fate(setup, memory, pen) {
-        let pixel = mixed_pixel(setup, memory, pen);
-        let at = destination_of(pen);
-        put(memory, setup.destination, at.x, at.y, pixel);
+    if !is_left_out(setup, memory, pen) {
+        write(setup, memory, pen);
     }
 }

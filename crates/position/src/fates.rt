@@ -1,7 +1,7 @@
 ghost use mathlib.Core.Path.{_≡_};
-ghost use Rattle.position.specs.Fates.{destinationPixel, onZero, isCompared, fateOf};
-use crate::Fate;
-use crate::places::destination_of;
+ghost use Rattle.pixels.specs.Maps.{bitsOf};
+ghost use Rattle.mixes.specs.Conditions.{conditionHolds};
+ghost use Rattle.position.specs.Fates.{onZero, isLeftOut};
 use crate::places::in_mask;
 use crate::places::is_move;
 use crate::places::is_nulled;
@@ -12,14 +12,6 @@ use moves::Pen;
 use moves::Setup;
 use pixels::bits_of;
 use pixels::get;
-
-// The destination pixel.
-pub(crate) fn destination_pixel(setup: Setup, memory: &[u8], pen: Pen) -> u32
-    ensures { λ r. ⌜ r ≡ destinationPixel setup (now (memory .entry)) pen ⌝ }
-{
-    let at = destination_of(pen);
-    get(memory, setup.destination, at.x, at.y)
-}
 
 // Whether the mask pixel is 0, where its map is used.
 fn is_on_zero(setup: Setup, memory: &[u8], pen: Pen) -> bool
@@ -32,11 +24,31 @@ fn is_on_zero(setup: Setup, memory: &[u8], pen: Pen) -> bool
     get(memory, setup.mask, at.x, at.y) == 0
 }
 
-// Whether the compare condition is true of the destination pixel.
-fn is_compared(setup: Setup, memory: &[u8], pen: Pen) -> bool
-    ensures { λ r. ⌜ r ≡ isCompared setup (now (memory .entry)) pen ⌝ }
+// Whether the position is left out whatever its destination pixel is: a move code, nulled, outside, or on a 0 mask pixel.
+pub(crate) fn is_left_out(setup: Setup, memory: &[u8], pen: Pen) -> bool
+    ensures { λ r. ⌜ r ≡ isLeftOut setup (now (memory .entry)) pen ⌝ }
 {
-    let pixel = destination_pixel(setup, memory, pen);
+    let drawing = pen.drawing;
+    if is_move(setup, drawing) {
+        return true;
+    }
+    if is_nulled(setup, drawing) {
+        return true;
+    }
+    if !on_map(setup, pen) {
+        return true;
+    }
+    if !in_mask(setup, pen) {
+        return true;
+    }
+    is_on_zero(setup, memory, pen)
+}
+
+// Whether the compare condition is true of a destination pixel.
+pub(crate) fn is_compared(setup: Setup, pixel: u32) -> bool
+    ensures { λ r.
+        ⌜ r ≡ conditionHolds (bitsOf (setup .destination .format)) (setup .compare .condition) (setup .planes) pixel (setup .compare .value) ⌝ }
+{
     let bits = bits_of(setup.destination.format);
     holds(
         bits,
@@ -45,30 +57,4 @@ fn is_compared(setup: Setup, memory: &[u8], pen: Pen) -> bool
         pixel,
         setup.compare.value,
     )
-}
-
-// What becomes of the position: the first reason not to write it, or `Written`.
-pub fn fate(setup: Setup, memory: &[u8], pen: Pen) -> Fate
-    ensures { λ r. ⌜ r ≡ fateOf setup (now (memory .entry)) pen ⌝ }
-{
-    let drawing = pen.drawing;
-    if is_move(setup, drawing) {
-        return Fate::Moved;
-    }
-    if is_nulled(setup, drawing) {
-        return Fate::Nulled;
-    }
-    if !on_map(setup, pen) {
-        return Fate::OutsideMap;
-    }
-    if !in_mask(setup, pen) {
-        return Fate::OutsideMask;
-    }
-    if is_on_zero(setup, memory, pen) {
-        return Fate::MaskZero;
-    }
-    if is_compared(setup, memory, pen) {
-        return Fate::Compared;
-    }
-    Fate::Written
 }

@@ -7,7 +7,8 @@ use moves::passage::next;
 use moves::pens::pen_with;
 use parts::drawing::Drawing;
 use parts::drawing::is_unfinished;
-use position::beyond::is_beyond;
+use position::beyond::goes_beyond;
+use position::beyond::is_safe;
 use position::drawn::draw;
 
 // What a run leaves beside memory: the pen, the positions done, and whether one lay beyond the memory.
@@ -24,6 +25,7 @@ pub fn run(setup: Setup, from: Pen, memory: &mut [u8], allowance: u32) -> Ran
         × (r .beyond ≡ after setup allowance (begun from (now (memory .entry))) .beyond)
         × (now (memory .exit) ≡ after setup allowance (begun from (now (memory .entry))) .memory) ⌝ }
 {
+    let safe = is_safe(setup, memory.len(), from);
     let mut pen = from;
     let mut done: u32 = 0;
     while done < allowance {
@@ -35,7 +37,7 @@ pub fn run(setup: Setup, from: Pen, memory: &mut [u8], allowance: u32) -> Ran
                 beyond: false,
             };
         }
-        if is_beyond(setup, memory.len(), pen) {
+        if goes_beyond(safe, setup, memory.len(), pen) {
             return Ran {
                 pen: pen_with(Drawing::Nothing { stopped: false }, pen),
                 done,

@@ -2,21 +2,18 @@
 use mathlib.Core.Path.{_≡_, refl, sym, ap, _∙_}
 use mathlib.Core.Bool.{Bool, true, false, _&&_}
 use mathlib.Core.List.{List, [], _∷_}
-use Prim.Native.Nat.{ℕ, _+_, _≤_, min}
+use Prim.Native.Nat.{ℕ, _+_}
 use native.Mathlib.Omega.{arith}
 use lib.ListN.{length}
 use borrow.Author.Tests.{eq-eqb}
 use Rattle.numbers.specs.Choose.{choose}
-use Rattle.numbers.specs.declared.bytes.Write.{Write}
 use Rattle.parts.specs.declared.refusals.Refusal.{Refusal}
 use Rattle.parts.specs.declared.refusals.Refusal.the-variants.{Accepted}
 use Rattle.parts.specs.Refusals.{isAccepted}
 use Rattle.runs.specs.Runs.{begun, after}
 use Rattle.coprocessor.specs.declared.Coprocessor.{Coprocessor}
-use Rattle.coprocessor.specs.declared.Written.{Written}
-use Rattle.coprocessor.specs.Valid.{validOf}
 use Rattle.coprocessor.specs.Runs.{ranOf, runRefusal, runAnswer, runMemory}
-use Rattle.coprocessor.specs.Images.{saves, saveRefusal, saved, loadAnswer}
+use Rattle.coprocessor.specs.Images.{saves, saveRefusal}
 use Rattle.theorems.specs.Held.{Held}
 use Rattle.theorems.specs.Cuts.{Event, Stand, standing, happened, lived, allowed}
 use Rattle.theorems.proofs.HeldRuns.{held-run}

@@ -1,18 +1,17 @@
 -- Point 3: the events of a drawing are one run of the summed allowances, and a run is that of exactly the positions that it did.
 use mathlib.Core.Path.{_≡_, refl, sym, ap, _∙_}
 use mathlib.Core.Bool.{Bool, true, false, false≢true}
-use mathlib.Core.List.{List, [], _∷_}
+use mathlib.Core.List.{List}
 use mathlib.Core.Logic.{_↔_}
 use Prim.Native.Nat.{ℕ, _+_, _≤_, min}
 use native.Mathlib.Omega.{arith}
 use lib.ListN.{length}
 use Rattle.numbers.specs.Choose.{choose}
 use Rattle.numbers.specs.declared.bytes.Write.{Write}
-use Rattle.parts.specs.declared.refusals.Refusal.{Refusal}
 use Rattle.parts.specs.declared.refusals.Refusal.the-variants.{Accepted, Beyond}
 use Rattle.parts.specs.Refusals.{isAccepted}
 use Rattle.parts.specs.Drawings.{unfinished}
-use Rattle.runs.specs.Runs.{Run, begun, after}
+use Rattle.runs.specs.Runs.{Run}
 use Rattle.runs.proofs.RunLaws.{after-done}
 use Rattle.coprocessor.specs.declared.Coprocessor.{Coprocessor}
 use Rattle.coprocessor.specs.declared.Drawn.{Drawn}

@@ -35,7 +35,7 @@ pen-with-requires c κs = search needs
 
 returns : tie.Need-returns
 unfolding gone
-returns c = rw (c .step-pen .ensures, toZ-ofZ w32 (c .before .before .way .given .0 .1 .1 .0) (search needs)) (known (c .before .before .before .before) (c .before .before .way .given .1))
+returns c = rw (c .step-pen .ensures, toZ-ofZ w32 (c .before .before .way .given .0 .1 .1 .1 .1 .0) (search needs)) (known (c .before .before .before .before) (c .before .before .way .given .1))
 
 returns-2 : tie.Need-returns-2
 unfolding gone

@@ -1,24 +1,78 @@
--- `pass_row` is the definition, field by field: each call gives its field.
-use mir.Syntax.{w32}
+-- `pass_row` is the definition, field by field: each call gives a part of its field, and a point of choices is the choice of points.
+use mir.Val.{SFits}
+use mir.Syntax.{w16, w32}
 use mir.ValLaws.{toZ-ofZ}
+use Rattle.moves.specs.Moves.{rowPoint, rowSpot, rowPassed}
+use Rattle.moves.proofs.Choices.{choose-point}
 use borrow.Author.Needs.{needs}
-use Rattle.moves.specs.Moves.{rowPassed}
 use Rattle.moves.proofs.pens.pass_row.Statement.{statement}
 use Rattle.moves.proofs.pens.pass_row.Tie as tie
 
-row-used-requires : tie.Need-row-used-requires
-row-used-requires c κs = search needs
+-- the destination has 16 bits, and E 32
+across : (c : tie.After-struct-told) → SFits w16 (c .before .before .before .before .before .before .before .args .pen .destination .x)
+across c = search (needs, c .struct-told .given)
 
-row-used-requires-2 : tie.Need-row-used-requires-2
-row-used-requires-2 c κs = search needs
+down : (c : tie.After-struct-told) → SFits w16 (c .before .before .before .before .before .before .before .args .pen .destination .y)
+down c = search (needs, c .struct-told .given)
 
-row-spot-requires : tie.Need-row-spot-requires
-row-spot-requires c κs = search needs
+error : (c : tie.After-struct-told) → SFits w32 (c .before .before .before .before .before .before .before .args .pen .e)
+error c = search (needs, c .struct-told .given)
+
+return-used-requires : tie.Need-return-used-requires
+return-used-requires c κs = search needs
+
+turn-used-requires : tie.Need-turn-used-requires
+turn-used-requires c κs = search needs
+
+return-used-requires-2 : tie.Need-return-used-requires-2
+return-used-requires-2 c κs = search needs
+
+turn-used-requires-2 : tie.Need-turn-used-requires-2
+turn-used-requires-2 c κs = search needs
+
+return-by-requires : tie.Need-return-by-requires
+return-by-requires c κs = search needs
+
+destination-down-requires : tie.Need-destination-down-requires
+destination-down-requires c κs = search needs
+
+circle-by-requires : tie.Need-circle-by-requires
+circle-by-requires c κs = search needs
 
 returns : tie.Need-returns
-unfolding rowPassed
-returns c = rw (c .before .row-spot .ensures, c .before .before .row-used2 .ensures, c .before .before .before .row-used .ensures, toZ-ofZ w32 (c .before .before .before .before .before .before .before .before .before .args .pen .e) (search needs))
+unfolding rowPoint rowSpot rowPassed
+returns c = let a = c .before .before .before .before .before .before .before .before .before .before .before .before .args in
+    rw (
+      toZ-ofZ w16 (c .before .circle-by .result) (record { sfits = c .before .circle-by .ok }),
+      toZ-ofZ w16 (c .before .before .before .before .return-by .result) (record { sfits = c .before .before .before .before .return-by .ok }),
+      c .before .circle-by .ensures,
+      c .before .before .before .destination-down .ensures,
+      c .before .before .before .before .return-by .ensures,
+      toZ-ofZ w16 (a .pen .destination .x) (across (c .before .before .before .before .before)),
+      toZ-ofZ w16 (a .pen .destination .y) (down (c .before .before .before .before .before)),
+      c .before .before .before .before .before .before .turn-used2 .ensures,
+      c .before .before .before .before .before .before .before .return-used2 .ensures,
+      c .before .before .before .before .before .before .before .before .turn-used .ensures,
+      c .before .before .before .before .before .before .before .before .before .return-used .ensures,
+      toZ-ofZ w32 (a .pen .e) (error (c .before .before .before .before .before)),
+    )
+    (λ i. record {
+      source = choose-point (a .setup .flow .source) (rowPoint (a .setup) (a .setup .source) (a .pen .source)) (a .pen .source) i;
+      pattern = choose-point (a .setup .flow .pattern) (rowPoint (a .setup) (a .setup .pattern) (a .pen .pattern)) (a .pen .pattern) i;
+      destination = rowSpot (a .setup) (a .pen .destination);
+      e = a .pen .e;
+      drawing = a .drawing;
+    })
 
 pub pass-row-spec : {M : Type 1} → statement M
 pass-row-spec =
-    tie.close (tie.spec row-used-requires row-used-requires-2 row-spot-requires returns)
+    tie.close
+    (tie.spec
+    return-used-requires
+    turn-used-requires
+    return-used-requires-2
+    turn-used-requires-2
+    return-by-requires
+    destination-down-requires
+    circle-by-requires
+    returns)

@@ -1,5 +1,5 @@
 -- `pen_with` keeps every field but the drawing, as the definition does.
-use mir.Syntax.{w32}
+use mir.Syntax.{w16, w32}
 use mir.ValLaws.{toZ-ofZ}
 use borrow.Author.Needs.{needs}
 use Rattle.moves.specs.Moves.{penWith}
@@ -8,7 +8,7 @@ use Rattle.moves.proofs.pens.pen_with.Tie as tie
 
 returns : tie.Need-returns
 unfolding penWith
-returns c = rw (toZ-ofZ w32 (c .before .before .before .before .args .pen .e) (search needs))
+returns c = let a = c .before .before .args in rw (toZ-ofZ w16 (a .pen .destination .x) (search needs), toZ-ofZ w16 (a .pen .destination .y) (search needs), toZ-ofZ w32 (a .pen .e) (search needs))
 
 pub pen-with-spec : {M : Type 1} → statement M
 pen-with-spec = tie.close (tie.spec returns)

@@ -1,24 +1,73 @@
--- `step_pen` is the definition, field by field: each call gives its field.
-use mir.Syntax.{w32}
+-- `step_pen` is the definition, field by field: each call gives a part of its field, and a point of choices is the choice of points.
+use mir.Val.{SFits}
+use Rattle.moves.specs.declared.Step.{Step}
+use mir.Syntax.{w16, w32}
 use mir.ValLaws.{toZ-ofZ}
-use borrow.Author.Needs.{needs}
+use Rattle.moves.specs.Turns.{pointStepped, spotStepped}
 use Rattle.moves.specs.Moves.{penStepped}
+use Rattle.moves.proofs.Choices.{choose-point}
+use borrow.Author.Needs.{needs}
 use Rattle.moves.proofs.pens.step_pen.Statement.{statement}
 use Rattle.moves.proofs.pens.step_pen.Tie as tie
 
-step-used-requires : tie.Need-step-used-requires
-step-used-requires c κs = search needs
+-- the destination has 16 bits
+across : (c : tie.After-struct-told) → SFits w16 (c .before .before .before .before .before .before .args .pen .destination .x)
+across c = search (needs, c .struct-told .given)
 
-step-used-requires-2 : tie.Need-step-used-requires-2
-step-used-requires-2 c κs = search needs
+down : (c : tie.After-struct-told) → SFits w16 (c .before .before .before .before .before .before .args .pen .destination .y)
+down c = search (needs, c .struct-told .given)
 
-step-spot-requires : tie.Need-step-spot-requires
-step-spot-requires c κs = search needs
+turn-used-requires : tie.Need-turn-used-requires
+turn-used-requires c κs = search needs
+
+turn-used-requires-2 : tie.Need-turn-used-requires-2
+turn-used-requires-2 c κs = search needs
+
+turn-used-requires-3 : tie.Need-turn-used-requires-3
+turn-used-requires-3 c κs = search needs
+
+turn-used-requires-4 : tie.Need-turn-used-requires-4
+turn-used-requires-4 c κs = search needs
+
+circle-by-requires : tie.Need-circle-by-requires
+circle-by-requires c κs = search needs
+
+circle-by-requires-2 : tie.Need-circle-by-requires-2
+circle-by-requires-2 c κs = search needs
 
 returns : tie.Need-returns
-unfolding penStepped
-returns c = rw (toZ-ofZ w32 (c .before .before .before .before .before .before .before .before .args .e) (c .before .before .before .before .before .before .before .before .fits .e), c .step-spot .ensures, c .before .step-used2 .ensures, c .before .before .step-used .ensures)
+unfolding pointStepped spotStepped penStepped
+returns c = let a = c .before .before .before .before .before .before .before .before .before .args in
+    let from : Step = record { x = a .from-x; y = a .from-y } in
+    rw (
+      toZ-ofZ w32 (a .e) (c .before .before .before .before .before .before .before .before .before .fits .e),
+      toZ-ofZ w16 (c .circle-by2 .result) (record { sfits = c .circle-by2 .ok }),
+      toZ-ofZ w16 (c .before .before .circle-by .result) (record { sfits = c .before .before .circle-by .ok }),
+      c .circle-by2 .ensures,
+      c .before .before .circle-by .ensures,
+      toZ-ofZ w16 (a .pen .destination .x) (across (c .before .before .before)),
+      toZ-ofZ w16 (a .pen .destination .y) (down (c .before .before .before)),
+      c .before .before .before .before .turn-used4 .ensures,
+      c .before .before .before .before .before .turn-used3 .ensures,
+      c .before .before .before .before .before .before .turn-used2 .ensures,
+      c .before .before .before .before .before .before .before .turn-used .ensures,
+    )
+    (λ i. record {
+      source = choose-point (a .setup .flow .source) (pointStepped (a .setup .source) from (a .pen .source)) (a .pen .source) i;
+      pattern = choose-point (a .setup .flow .pattern) (pointStepped (a .setup .pattern) from (a .pen .pattern)) (a .pen .pattern) i;
+      destination = spotStepped (record { x = a .to-x; y = a .to-y }) (a .pen .destination);
+      e = a .e;
+      drawing = a .drawing;
+    })
 
 pub step-pen-spec : {M : Type 1} → statement M
 step-pen-spec =
-    tie.close (tie.spec step-used-requires step-used-requires-2 step-spot-requires returns)
+    tie.close
+    (tie.spec
+    turn-used-requires
+    turn-used-requires-2
+    turn-used-requires-3
+    turn-used-requires-4
+    circle-by-requires
+    circle-by-requires-2
+    returns)

@@ -1,59 +1,31 @@
--- `draw` leaves what is drawn: at `Written` one pixel is put, after all reads, and at any other fate memory stays.
-use mathlib.Core.List.{[], _∷_}
+-- `draw` leaves what is drawn: nothing where the position is left out, and otherwise what is written.
 use mathlib.Core.Path.{_∙_, sym}
-use types.Run.{miss}
+use borrow.Author.Tests.{not-true, not-false}
+use Rattle.position.proofs.Choices.{choose-true, choose-false}
+use Rattle.position.proofs.Writing.{drawn-in}
 use borrow.Author.Needs.{needs}
-use Rattle.position.specs.Drawn.{drawnBy, drawn}
-use Rattle.position.proofs.Writing.{not-written}
 use Rattle.position.proofs.drawn.draw.Statement.{statement}
 use Rattle.position.proofs.drawn.draw.Tie as tie
 
-fate-requires : tie.Need-fate-requires
-fate-requires c κs = search needs
+is-left-out-requires : tie.Need-is-left-out-requires
+is-left-out-requires c κs = search needs
 
-enum-told : tie.Need-enum-told
-enum-told c = search needs
-
-mixed-pixel-requires : tie.Need-mixed-pixel-requires
-mixed-pixel-requires c κs = search needs
-
-destination-of-requires : tie.Need-destination-of-requires
-destination-of-requires c κs = search needs
-
-put-requires : tie.Need-put-requires
-put-requires c κs = search needs
+write-requires : tie.Need-write-requires
+write-requires c κs = search needs
 
 same-length : tie.Need-same-length
 same-length c = search needs
 
 returns : tie.Need-returns
-unfolding drawnBy drawn
-returns c =
-    rw (
-      sym (c .before .before .before .before .before .before .before .before .before .fate .ensures) ∙ c .before .before .before .before .before .before .before .enum-told .given .1,
-      c .before .before .put .ensures,
-      c .before .before .before .before .before .mixed-pixel .ensures,
-      c .before .before .before .before .destination-of .ensures .0,
-      c .before .before .before .before .destination-of .ensures .1,
-    )
+returns c = c .before .before .write .ensures ∙ sym (drawn-in _ _ _ ∙ choose-false _ _ (sym (c .before .before .before .before .before .is-left-out .ensures) ∙ not-true _ (c .before .before .before .before .if1 .taken)))
 
 same-length-2 : tie.Need-same-length-2
 same-length-2 c = search needs
 
 returns-2 : tie.Need-returns-2
-returns-2 c =
-    sym (not-written _ _ _ (λ e. miss (0 ∷ 1 ∷ 2 ∷ 3 ∷ 4 ∷ 5 ∷ []) 6 tt (rw (c .before .fate .ensures, e) at (c .match .keys2))))
+returns-2 c = sym (drawn-in _ _ _ ∙ choose-true _ _ (sym (c .before .is-left-out .ensures) ∙ not-false _ (c .if1 .left)))
 
 pub draw-spec : {M : Type 1} → statement M
 draw-spec =
     tie.close
-    (tie.spec
-    fate-requires
-    enum-told
-    mixed-pixel-requires
-    destination-of-requires
-    put-requires
-    same-length
-    returns
-    same-length-2
-    returns-2)
+    (tie.spec is-left-out-requires write-requires same-length returns same-length-2 returns-2)

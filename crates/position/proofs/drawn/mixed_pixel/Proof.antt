@@ -1,7 +1,7 @@
 -- `mixed_pixel` is the definition with each part of it read once: pixels have at most 8 bits.
-use borrow.Author.Needs.{needs}
 use Rattle.pixels.proofs.Maps.{bits-le}
-use Rattle.position.specs.Drawn.{inkOf, picked, mixedPixel}
+use Rattle.position.specs.Drawn.{inkOf, picked}
+use borrow.Author.Needs.{needs}
 use Rattle.position.proofs.drawn.mixed_pixel.Statement.{statement}
 use Rattle.position.proofs.drawn.mixed_pixel.Tie as tie
 
@@ -14,9 +14,6 @@ ink-of-requires c κs = search needs
 picked-requires : tie.Need-picked-requires
 picked-requires c κs = search needs
 
-destination-pixel-requires : tie.Need-destination-pixel-requires
-destination-pixel-requires c κs = search needs
-
 bits-of-requires : tie.Need-bits-of-requires
 bits-of-requires c κs = search needs
 
@@ -24,16 +21,14 @@ mix-requires : tie.Need-mix-requires
 mix-requires c κs = rw (c .bits-of .ensures) (bits-le _)
 
 returns : tie.Need-returns
-unfolding inkOf picked mixedPixel
-returns c =
-    rw (
-      c .mix .ensures,
-      c .before .bits-of .ensures,
-      c .before .before .destination-pixel .ensures,
-      c .before .before .before .picked .ensures,
-      c .before .before .before .before .ink-of .ensures,
-      c .before .before .before .before .before .is-foreground .ensures,
-    )
+unfolding inkOf picked
+returns c = rw (
+  c .mix .ensures,
+  c .before .bits-of .ensures,
+  c .before .before .picked .ensures,
+  c .before .before .before .ink-of .ensures,
+  c .before .before .before .before .is-foreground .ensures,
+)
 
 pub mixed-pixel-spec : {M : Type 1} → statement M
 mixed-pixel-spec =
@@ -42,7 +37,6 @@ mixed-pixel-spec =
     is-foreground-requires
     ink-of-requires
     picked-requires
-    destination-pixel-requires
     bits-of-requires
     mix-requires
     returns)

@@ -1,0 +1,18 @@
+-- `return_by` steps back by the row's length on the circle, as the definition does.
+use mir.Syntax.{w16}
+use mir.ValLaws.{toZ-ofZ}
+use borrow.Author.Needs.{needs}
+use Rattle.moves.proofs.pens.return_by.Statement.{statement}
+use Rattle.moves.proofs.pens.return_by.Tie as tie
+
+opposite-requires : tie.Need-opposite-requires
+opposite-requires c κs = search needs
+
+circle-by-requires : tie.Need-circle-by-requires
+circle-by-requires c κs = search needs
+
+returns : tie.Need-returns
+returns c = rw (toZ-ofZ w16 (c .circle-by .result) (record { sfits = c .circle-by .ok }), c .circle-by .ensures, c .before .opposite .ensures, toZ-ofZ w16 (c .before .before .before .args .x) (c .before .before .before .fits .x))
+
+pub return-by-spec : {M : Type 1} → statement M
+return-by-spec = tie.close (tie.spec opposite-requires circle-by-requires returns)

@@ -1,0 +1,39 @@
+-- `way_along` is the definition, part by part: a part of a choice of steps is the choice of their parts.
+use mir.Syntax.{w32}
+use mir.ValLaws.{toZ-ofZ}
+use Rattle.moves.specs.declared.Step.{Step}
+use Rattle.moves.specs.declared.Way.the-variants.{Along}
+use Rattle.moves.specs.Moves.{right, sourceBy, destinationBy}
+use Rattle.moves.proofs.Choices.{choose-part}
+use borrow.Author.Needs.{needs}
+use Rattle.moves.proofs.ways.way_along.Statement.{statement}
+use Rattle.moves.proofs.ways.way_along.Tie as tie
+
+turn-in-requires : tie.Need-turn-in-requires
+turn-in-requires c κs = search needs
+
+turn-in-requires-2 : tie.Need-turn-in-requires-2
+turn-in-requires-2 c κs = search needs
+
+turn-in-requires-3 : tie.Need-turn-in-requires-3
+turn-in-requires-3 c κs = search needs
+
+turn-in-requires-4 : tie.Need-turn-in-requires-4
+turn-in-requires-4 c κs = search needs
+
+returns : tie.Need-returns
+unfolding sourceBy destinationBy
+returns c = let a = c .before .before .before .before .args in
+    rw (
+      c .turn-in4 .ensures,
+      c .before .turn-in3 .ensures,
+      c .before .before .turn-in2 .ensures,
+      c .before .before .before .turn-in .ensures,
+      toZ-ofZ w32 (a .e) (c .before .before .before .before .fits .e),
+    )
+    (λ i. Along (choose-part (λ (s : Step). s .x) (a .course .read) (a .step) right i) (choose-part (λ (s : Step). s .y) (a .course .read) (a .step) right i) (choose-part (λ (s : Step). s .x) (a .course .read) right (a .step) i) (choose-part (λ (s : Step). s .y) (a .course .read) right (a .step) i) (a .e) (a .drawing))
+
+pub way-along-spec : {M : Type 1} → statement M
+way-along-spec =
+    tie.close
+    (tie.spec turn-in-requires turn-in-requires-2 turn-in-requires-3 turn-in-requires-4 returns)

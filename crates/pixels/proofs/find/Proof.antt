@@ -1,0 +1,25 @@
+-- `find` is the definition, with each part of it found once.
+use Rattle.pixels.specs.Pixels.{byteAt, foundAt}
+use borrow.Author.Needs.{needs}
+use Rattle.pixels.proofs.find.Statement.{statement}
+use Rattle.pixels.proofs.find.Tie as tie
+
+place-requires : tie.Need-place-requires
+place-requires c κs = search needs
+
+byte-at-requires : tie.Need-byte-at-requires
+byte-at-requires c κs = search needs
+
+shift-requires : tie.Need-shift-requires
+shift-requires c κs = search needs
+
+bits-of-requires : tie.Need-bits-of-requires
+bits-of-requires c κs = search needs
+
+returns : tie.Need-returns
+unfolding byteAt foundAt
+returns c = rw (c .bits-of .ensures, c .before .shift .ensures, c .before .before .byte-at .ensures, c .before .before .before .place .ensures)
+
+pub find-spec : {M : Type 1} → statement M
+find-spec =
+    tie.close (tie.spec place-requires byte-at-requires shift-requires bits-of-requires returns)
