@@ -25,6 +25,12 @@ use Rattle.board.proofs.xga_run as xga-run
 use Rattle.board.proofs.xga_load as xga-load
 use Rattle.entry.proofs.write_in as write-in
 use Rattle.entry.proofs.write_own as write-own
+use Rattle.lines.proofs.answers.obey as obey
+use Rattle.lines.proofs.calls.call_of as call-of
+use Rattle.lines.proofs.gather.gather as gather
+use Rattle.lines.proofs.gather.call_in as call-in
+use Rattle.lines.proofs.texts.answer_text as answer-text
+use Rattle.lines.proofs.texts.memory_text as memory-text
 use Rattle.theorems.specs.One.{One}
 
 module _ {M : Type 1} (𝓤 : URA M) where
@@ -93,3 +99,21 @@ module _ {M : Type 1} (𝓤 : URA M) (H : Heap 𝓤) (A : Atoms 𝓤) (mem : Mem
 
   pub write-own-one : One 𝓤 write-own.ended (write-own.clauses 𝓤 H A mem runs)
   write-own-one κs a g r s m n = either 𝓤 (said 𝓤) (said 𝓤) (λ p q. (p ∙ sym q, refl))
+
+  pub call-of-one : One 𝓤 call-of.ended (call-of.clauses 𝓤 H A mem runs)
+  call-of-one κs a g r s m n = either 𝓤 (said 𝓤) (said 𝓤) (λ p q. (p ∙ sym q, refl))
+
+  pub obey-one : One 𝓤 obey.ended (obey.clauses 𝓤 H A mem runs)
+  obey-one κs a g r s m n = either 𝓤 (said 𝓤) (said 𝓤) (λ p q. (p .0 ∙ sym (q .0), λ i. (tt, (tt, ((p .1 ∙ sym (q .1)) i, tt)))))
+
+  pub gather-one : One 𝓤 gather.ended (gather.clauses 𝓤 H A mem runs)
+  gather-one κs a g r s m n = either 𝓤 (said 𝓤) (said 𝓤) (λ p q. (p .0 ∙ sym (q .0), λ i. ((p .1 ∙ sym (q .1)) i, (tt, (tt, tt)))))
+
+  pub call-in-one : One 𝓤 call-in.ended (call-in.clauses 𝓤 H A mem runs)
+  call-in-one κs a g r s m n = either 𝓤 (said 𝓤) (said 𝓤) (λ p q. (p ∙ sym q, refl))
+
+  pub answer-text-one : One 𝓤 answer-text.ended (answer-text.clauses 𝓤 H A mem runs)
+  answer-text-one κs a g r s m n = either 𝓤 (two 𝓤) (two 𝓤) (λ p q. (p .0 .0 ∙ sym (q .0 .0), λ i. (tt, (tt, ((p .0 .1 ∙ sym (q .0 .1)) i, tt)))))
+
+  pub memory-text-one : One 𝓤 memory-text.ended (memory-text.clauses 𝓤 H A mem runs)
+  memory-text-one κs a g r s m n = either 𝓤 (two 𝓤) (two 𝓤) (λ p q. (refl, λ i. (tt, ((p .0 ∙ sym (q .0)) i, tt))))

@@ -21,13 +21,14 @@ use sound.WpLaws.{FmC, fmOf, WpFn-mono}
 use denote.RattleType.{owns}
 use denote.Laws.{Is, shows}
 use denote.Memory.{mem}
-use denote.Plain.{uint-vals, uint-tells, uint-makes, uint-lawful}
+use denote.Plain.{uint-vals, uint-tells, uint-makes}
 use denote.Builtin.{u32}
 use denote.Ref.{RefT, MutRef, ptr-vals, mut-tells}
 use denote.Signature.{plain}
 use denote.Steps.{opens, closes, owned, peeks, heard, nothing}
 use denote.Struct.Steps.{spelt}
 use denote.Struct.Laws as LL
+use denote.Enum.Laws as EL
 use denote.Triple.Statement.{Contract, Triple}
 use denote.Triple.Call.{calls-at}
 use denote.Triple.Entry.{onEntry}
@@ -37,7 +38,9 @@ use denote.Triple.Walked.{says, Stays, stay-ref, stay-none, walkOf, AllGo, goes-
 use denote.Exit.{yes}
 use denote.Triple.Clauses.{ensured, lasts}
 use Rattle.numbers.specs.declared.bytes.Write.{Write}
-use Rattle.parts.specs.Refusals.{numberOf}
+use Rattle.parts.specs.declared.refusals.Refusal.{Refusal}
+use Rattle.parts.proofs.refusals.Refusal as R
+use Rattle.parts.proofs.refusals.Refusal.Laws as R′
 use Rattle.coprocessor.specs.declared.Coprocessor.{Coprocessor}
 use Rattle.coprocessor.specs.declared.Written.{Written}
 use Rattle.coprocessor.specs.Writes.{writeAnswer}
@@ -53,10 +56,10 @@ use Rattle.entry.proofs.record_of as record-of
 use Rattle.entry.proofs.record_of.Symbol as record-of-def
 use Rattle.entry.proofs.record_of.Symbol.{name as #entry·record-of}
 use Rattle.entry.proofs.record_of.Met as record-of-thm
-use Rattle.entry.proofs.number_of as number-of
-use Rattle.entry.proofs.number_of.Symbol as number-of-def
-use Rattle.entry.proofs.number_of.Symbol.{name as #entry·number-of}
-use Rattle.entry.proofs.number_of.Met as number-of-thm
+use Rattle.entry.proofs.refusal_of as refusal-of
+use Rattle.entry.proofs.refusal_of.Symbol as refusal-of-def
+use Rattle.entry.proofs.refusal_of.Symbol.{name as #entry·refusal-of}
+use Rattle.entry.proofs.refusal_of.Met as refusal-of-thm
 use Rattle.entry.proofs.write_in.Key.{name as #entry·write-in}
 use Rattle.entry.proofs.write_in as write-in
 use Rattle.entry.proofs.write_in.Statement as stated
@@ -87,8 +90,8 @@ module _ {M : Type 1} (𝓤 : URA M) (H : Heap 𝓤) (A : Atoms 𝓤) (at-mem : 
   abbrev RecordOf : Contract 𝓤
   RecordOf = tripleOf 𝓤 H A record-of.signature (record-of.spec 𝓤 H A at-mem run)
 
-  abbrev NumberOf : Contract 𝓤
-  NumberOf = tripleOf 𝓤 H A number-of.signature (number-of.spec 𝓤 H A at-mem run)
+  abbrev RefusalOf : Contract 𝓤
+  RefusalOf = tripleOf 𝓤 H A refusal-of.signature (refusal-of.spec 𝓤 H A at-mem run)
 
   -- of each callee's `ensured`, the clause alone
   wrote-of : (c : Coprocessor) (k l m : ℕ) (r : Written)
@@ -98,8 +101,8 @@ module _ {M : Type 1} (𝓤 : URA M) (H : Heap 𝓤) (A : Atoms 𝓤) (at-mem : 
   record-is : (w : Written) (r : Coprocessor) → ent 𝓤 (ensured 𝓤 H A record-of.ended (record-of.clauses 𝓤 H A at-mem run) tt (w, tt) tt r) (fact 𝓤 (r ≡ w .coprocessor))
   record-is w r = exE 𝓤 _ (λ ws. snd∗ 𝓤 (sem 𝓤 H A (lasts record-of.ended tt (w, tt) ws)) (fact 𝓤 (r ≡ w .coprocessor)))
 
-  number-is : (w : Written) (r : ℕ) → ent 𝓤 (ensured 𝓤 H A number-of.ended (number-of.clauses 𝓤 H A at-mem run) tt (w, tt) tt r) (fact 𝓤 (r ≡ numberOf (w .refusal)))
-  number-is w r = exE 𝓤 _ (λ ws. snd∗ 𝓤 (sem 𝓤 H A (lasts number-of.ended tt (w, tt) ws)) (fact 𝓤 (r ≡ numberOf (w .refusal))))
+  refusal-is : (w : Written) (r : Refusal) → ent 𝓤 (ensured 𝓤 H A refusal-of.ended (refusal-of.clauses 𝓤 H A at-mem run) tt (w, tt) tt r) (fact 𝓤 (r ≡ w .refusal))
+  refusal-is w r = exE 𝓤 _ (λ ws. snd∗ 𝓤 (sem 𝓤 H A (lasts refusal-of.ended tt (w, tt) ws)) (fact 𝓤 (r ≡ w .refusal)))
 
 module _ {M : Type 1} (𝓤 : URA M) (H : Heap 𝓤) (A : Atoms 𝓤) (W : Given 𝓤 H A) (at-mem : Memory → SProp 𝓤) (run : Routine → Fun 𝓤)
     (κ : Lft) (q : Share) (b o : ℕ) (γ : GName) (h : Coprocessor) (k l m : ℕ) where
@@ -113,10 +116,10 @@ module _ {M : Type 1} (𝓤 : URA M) (H : Heap 𝓤) (A : Atoms 𝓤) (W : Given
   Post = walkOf 𝓤 H A write-in.ended stayed (write-in.clauses 𝓤 H A at-mem run) .post (((κ, tt), (q, tt), tt, x, at), tt)
 
   module _ (fk : k < 2 ^ 32) (fl : l < 2 ^ 32) (fm : m < 2 ^ 32) where
-    exits : (n : ℕ) (v : Val) (c : Coprocessor) → n ≡ numberOf (writeAnswer (write k l m) h .refusal) → c ≡ writeAnswer (write k l m) h .coprocessor
-        → ent 𝓤 (sep 𝓤 (A .obs γ (T.the-row .coded .code c)) (sep 𝓤 (A .bor κ (Body (mem T.the-row) b o γ)) (sep 𝓤 (A .lft κ q) (sem 𝓤 H A (u32 .own n (v ∷ [])))))) (Post v)
+    exits : (n : Refusal) (v : Val) (c : Coprocessor) → n ≡ writeAnswer (write k l m) h .refusal → c ≡ writeAnswer (write k l m) h .coprocessor
+        → ent 𝓤 (sep 𝓤 (A .obs γ (T.the-row .coded .code c)) (sep 𝓤 (A .bor κ (Body (mem T.the-row) b o γ)) (sep 𝓤 (A .lft κ q) (sem 𝓤 H A (R.the-row .own n (v ∷ [])))))) (Post v)
     exits n v c e e′ =
-        qed W (‵ (fobs γ (T.the-row .coded .code c)) ∷ ‵ (fbor κ (Body (mem T.the-row) b o γ)) ∷ ‵ (flft κ q) ∷ ‵ (u32 .own n (v ∷ [])) ∷ []) ∵
+        qed W (‵ (fobs γ (T.the-row .coded .code c)) ∷ ‵ (fbor κ (Body (mem T.the-row) b o γ)) ∷ ‵ (flft κ q) ∷ ‵ (R.the-row .own n (v ∷ [])) ∷ []) ∵
         suffices ! _ (ends-at 𝓤 H A write-in.ended stayed (write-in.clauses 𝓤 H A at-mem run) W (((κ, tt), (q, tt), tt, x, at), tt) v n (c, (tt, (tt, (tt, tt)))) (tt, (tt, (tt, (tt, tt))))) $
         says ! (e, e′) $ nothing ! $ move ! (3 ∷ 0 ∷ []) $ join ! $ frame ! $ feqI ! (List Val) (vptr b o ∷ []) (vptr b o ∷ []) refl $ fjoin3 ! $ nothing ! $
         owned ! u32 (Is u32) (uint-makes 𝓤 H A W w32) m _ (refl, fm) $ fjoin ! $ owned ! u32 (Is u32) (uint-makes 𝓤 H A W w32) l _ (refl, fl) $ fjoin ! $
@@ -137,14 +140,14 @@ module _ {M : Type 1} (𝓤 : URA M) (H : Heap 𝓤) (A : Atoms 𝓤) (W : Given
   goes-record : (r : Written) (v : Val) → ent 𝓤 (sem 𝓤 H A (S.the-row .own r (v ∷ []))) (RecordOf 𝓤 H A at-mem run .pre (to-record r v))
   goes-record r v = qed W (‵ (S.the-row .own r (v ∷ [])) ∷ []) ∵ nothing ! $ move ! (1 ∷ 0 ∷ []) $ join ! $ nothing ! $ join ! $ frame ! $ done !
 
-  abbrev to-number : Written → Val → NumberOf 𝓤 H A at-mem run .Ghost
-  to-number r v = ((tt, tt, tt, (r, tt), (v ∷ [], tt)), tt)
+  abbrev to-refusal : Written → Val → RefusalOf 𝓤 H A at-mem run .Ghost
+  to-refusal r v = ((tt, tt, tt, (r, tt), (v ∷ [], tt)), tt)
 
-  goes-number : (r : Written) (v : Val) → ent 𝓤 (sem 𝓤 H A (S.the-row .own r (v ∷ []))) (NumberOf 𝓤 H A at-mem run .pre (to-number r v))
-  goes-number r v = qed W (‵ (S.the-row .own r (v ∷ [])) ∷ []) ∵ nothing ! $ move ! (1 ∷ 0 ∷ []) $ join ! $ nothing ! $ join ! $ frame ! $ done !
+  goes-refusal : (r : Written) (v : Val) → ent 𝓤 (sem 𝓤 H A (S.the-row .own r (v ∷ []))) (RefusalOf 𝓤 H A at-mem run .pre (to-refusal r v))
+  goes-refusal r v = qed W (‵ (S.the-row .own r (v ∷ [])) ∷ []) ∵ nothing ! $ move ! (1 ∷ 0 ∷ []) $ join ! $ nothing ! $ join ! $ frame ! $ done !
 
   module _ (C : Calls 𝓤 H) (Λ : Loops 𝓤 H) (fm : FmC 𝓤 H (W .laws) C) (known-written : Triple 𝓤 (C #entry·written) (Wrote 𝓤 H A at-mem run))
-      (known-record : Triple 𝓤 (C #entry·record-of) (RecordOf 𝓤 H A at-mem run)) (known-number : Triple 𝓤 (C #entry·number-of) (NumberOf 𝓤 H A at-mem run)) where
+      (known-record : Triple 𝓤 (C #entry·record-of) (RecordOf 𝓤 H A at-mem run)) (known-refusal : Triple 𝓤 (C #entry·refusal-of) (RefusalOf 𝓤 H A at-mem run)) where
     walk : ent 𝓤 (onEntry 𝓤 H A write-in.signature (κ, tt) (q, tt) x at) (WpFn 𝓤 H C Λ code.function (vptr b o ∷ vint w32 k ∷ vint w32 l ∷ vint w32 m ∷ []) Post)
     walk =
         qed W ((‵ (flft κ q) ⊛ ‵ ftrue) ∷ ‵ (owns (MutRef (named 0) κ T.the-row ∷ u32 ∷ u32 ∷ u32 ∷ []) x at) ∷ []) ∵ split ! $ move ! (2 ∷ []) $ fsplit ! $ move ! (1 ∷ []) $ fsplit ! $
@@ -170,26 +173,26 @@ module _ {M : Type 1} (𝓤 : URA M) (H : Heap 𝓤) (A : Atoms 𝓤) (W : Given
         split ! $ move ! (1 ∷ []) $ use1 W (raw (fact 𝓤 (c ≡ r .coprocessor))) (record-is 𝓤 H A at-mem run r c) $ heard ! (c ≡ r .coprocessor) (λ e₂. split ! $ drop ! $
         peeks ! T.the-row (Is T.the-row) (shows 𝓤 H A T.the-row) c (v′ ∷ []) (λ is₂. land ! (from ! (stop !)) (store ! 5 refl (LL.lawful T.the-type T′.the-laws 𝓤 H A W .typed c _ is₂ .0)) $
         assigns ! (of-opd ! (load ! (from ! (stop !)) (look ! 5 refl))) (from ! (hop ! (look ! 15 refl) (stop !))) (store-raw ! 1 refl (LL.lawful T.the-type T′.the-laws 𝓤 H A W .typed c _ is₂ .0)) $
-        owned ! S.the-row (Is S.the-row) (LL.makes S.the-type S′.the-plain 𝓤 H A) r _ is₁ $ use1 W (raw (NumberOf 𝓤 H A at-mem run .pre (to-number r v))) (goes-number r v) $
-        calls-at ! fm (NumberOf 𝓤 H A at-mem run) known-number (to-number r v) (and-then ! (load ! (from ! (stop !)) (look ! 8 refl)) (no-more !)) (λ v″.
-        use1 W (later (some (λ (n : ℕ). (‵ ftrue ⊛ ‵ (u32 .own n (v″ ∷ []))) ⊛ raw (ensured 𝓤 H A number-of.ended (number-of.clauses 𝓤 H A at-mem run) tt (r, tt) tt n)))) (id⊢ 𝓤 _) $ await ! tt $ pick ! (λ n.
-        split ! $ move ! (1 ∷ []) $ use1 W (raw (fact 𝓤 (n ≡ numberOf (r .refusal)))) (number-is 𝓤 H A at-mem run r n) $ heard ! (n ≡ numberOf (r .refusal)) (λ e₃. split ! $ drop ! $
-        peeks ! u32 (Is u32) (shows 𝓤 H A u32) n (v″ ∷ []) (λ is₃. land ! (from ! (stop !)) (init ! 18 refl (uint-lawful 𝓤 H A W w32 .typed n _ is₃ .0)) $
+        owned ! S.the-row (Is S.the-row) (LL.makes S.the-type S′.the-plain 𝓤 H A) r _ is₁ $ use1 W (raw (RefusalOf 𝓤 H A at-mem run .pre (to-refusal r v))) (goes-refusal r v) $
+        calls-at ! fm (RefusalOf 𝓤 H A at-mem run) known-refusal (to-refusal r v) (and-then ! (load ! (from ! (stop !)) (look ! 8 refl)) (no-more !)) (λ v″.
+        use1 W (later (some (λ (n : Refusal). (‵ ftrue ⊛ ‵ (R.the-row .own n (v″ ∷ []))) ⊛ raw (ensured 𝓤 H A refusal-of.ended (refusal-of.clauses 𝓤 H A at-mem run) tt (r, tt) tt n)))) (id⊢ 𝓤 _) $ await ! tt $ pick ! (λ n.
+        split ! $ move ! (1 ∷ []) $ use1 W (raw (fact 𝓤 (n ≡ r .refusal))) (refusal-is 𝓤 H A at-mem run r n) $ heard ! (n ≡ r .refusal) (λ e₃. split ! $ drop ! $
+        peeks ! R.the-row (Is R.the-row) (shows 𝓤 H A R.the-row) n (v″ ∷ []) (λ is₃. land ! (from ! (stop !)) (init ! 18 refl (EL.lawful R.the-type R′.the-laws 𝓤 H A W tt .typed n _ is₃ .0)) $
         move ! (2 ∷ 1 ∷ 3 ∷ 4 ∷ 5 ∷ []) $ closes ! tt T.the-row c (v′ ∷ []) b o $
         returns ! (look ! 16 refl) $ forget ! 4 refl $ forget ! 6 refl $ forget ! 8 refl $ forget ! 10 refl $ forget ! 12 refl $ forget ! 14 refl $ forget ! 16 refl $
         move ! (16 ∷ 17 ∷ []) $ free1 ! $ move ! (14 ∷ 15 ∷ []) $ free1 ! $ move ! (12 ∷ 13 ∷ []) $ free1 ! $ move ! (10 ∷ 11 ∷ []) $ free1 ! $ move ! (8 ∷ 9 ∷ []) $ free1 ! $ move ! (6 ∷ 7 ∷ []) $ free1 ! $ move ! (4 ∷ 5 ∷ []) $ free1 ! $ free0 ! $
-        keep ! (0 ∷ 1 ∷ 2 ∷ 3 ∷ []) $ by ! (exits (gk .1) (gl .1) (gm .1) n v″ c (e₃ ∙ ap (λ (w : Written). numberOf (w .refusal)) e₁) (e₂ ∙ ap (λ (w : Written). w .coprocessor) e₁))))))))))))))))))))))))))
+        keep ! (0 ∷ 1 ∷ 2 ∷ 3 ∷ []) $ by ! (exits (gk .1) (gl .1) (gm .1) n v″ c (e₃ ∙ ap (λ (w : Written). w .refusal) e₁) (e₂ ∙ ap (λ (w : Written). w .coprocessor) e₁))))))))))))))))))))))))))
 
 module _ {M : Type 1} (𝓤 : URA M) (H : Heap 𝓤) (A : Atoms 𝓤) (W : Given 𝓤 H A) (at-mem : Memory → SProp 𝓤) (run : Routine → Fun 𝓤) where
   write-in-walks : (C : Calls 𝓤 H) (Λ : Loops 𝓤 H) → FmC 𝓤 H (W .laws) C → Triple 𝓤 (C #entry·written) (Wrote 𝓤 H A at-mem run)
-      → Triple 𝓤 (C #entry·record-of) (RecordOf 𝓤 H A at-mem run) → Triple 𝓤 (C #entry·number-of) (NumberOf 𝓤 H A at-mem run)
+      → Triple 𝓤 (C #entry·record-of) (RecordOf 𝓤 H A at-mem run) → Triple 𝓤 (C #entry·refusal-of) (RefusalOf 𝓤 H A at-mem run)
       → Walks 𝓤 H A write-in.ended stayed (WpFn 𝓤 H C Λ code.function) (write-in.clauses 𝓤 H A at-mem run)
-  write-in-walks C Λ fm known-written known-record known-number =
+  write-in-walks C Λ fm known-written known-record known-refusal =
       walked 𝓤 H A write-in.ended stayed (write-in.clauses 𝓤 H A at-mem run) (WpFn 𝓤 H C Λ code.function)
       (λ κs. (ptr-vals, (uint-vals w32, (uint-vals w32, (uint-vals w32, tt)))))
       (λ κs. (mut-tells (named 0) (κs .0) T.the-row, (uint-tells w32, (uint-tells w32, (uint-tells w32, tt)))))
       (λ κs qs bounds a _ _. via 𝓤 _ (fst∗ 𝓤 _ (emp 𝓤))
-      (walk 𝓤 H A W at-mem run (κs .0) (qs .0) (a .0 .ptr .0) (a .0 .ptr .1) (a .0 .name) (a .0 .now) (a .1 .0) (a .1 .1 .0) (a .1 .1 .1 .0) C Λ fm known-written known-record known-number))
+      (walk 𝓤 H A W at-mem run (κs .0) (qs .0) (a .0 .ptr .0) (a .0 .ptr .1) (a .0 .name) (a .0 .now) (a .1 .0) (a .1 .1 .0) (a .1 .1 .1 .0) C Λ fm known-written known-record known-refusal))
 
   goes : AllGo 𝓤 H A W 1 (write-in.signature .params) (write-in.ended .kept) stayed
   goes = (
@@ -202,11 +205,11 @@ module _ {M : Type 1} (𝓤 : URA M) (H : Heap 𝓤) (A : Atoms 𝓤) (W : Given
 
 write-in-meets : {M : Type 1} (𝓤 : URA M) (H : Heap 𝓤) (A : Atoms 𝓤) → Given 𝓤 H A → (at-mem : Memory → SProp 𝓤) (run : Routine → Fun 𝓤) (𝓣 : Tables 𝓤 H)
     → Triple 𝓤 (𝓣 .C #entry·written) (Wrote 𝓤 H A at-mem run) → Triple 𝓤 (𝓣 .C #entry·record-of) (RecordOf 𝓤 H A at-mem run)
-    → Triple 𝓤 (𝓣 .C #entry·number-of) (NumberOf 𝓤 H A at-mem run)
+    → Triple 𝓤 (𝓣 .C #entry·refusal-of) (RefusalOf 𝓤 H A at-mem run)
     → Meets 𝓤 H A write-in.signature (WpFn 𝓤 H (𝓣 .C) (𝓣 .Λ) code.function) (write-in.spec 𝓤 H A at-mem run)
-write-in-meets 𝓤 H A W at-mem run 𝓣 known-written known-record known-number =
+write-in-meets 𝓤 H A W at-mem run 𝓣 known-written known-record known-refusal =
     walk-meets 𝓤 H A write-in.ended stayed W (goes 𝓤 H A W at-mem run) (write-in.clauses 𝓤 H A at-mem run) (WpFn 𝓤 H (𝓣 .C) (𝓣 .Λ) code.function)
-    (WpFn-mono 𝓤 H (W .laws) 𝓣 code.function) (write-in-walks 𝓤 H A W at-mem run (𝓣 .C) (𝓣 .Λ) (fmOf 𝓤 H (W .laws) 𝓣) known-written known-record known-number)
+    (WpFn-mono 𝓤 H (W .laws) 𝓣 code.function) (write-in-walks 𝓤 H A W at-mem run (𝓣 .C) (𝓣 .Λ) (fmOf 𝓤 H (W .laws) 𝓣) known-written known-record known-refusal)
 
 pub write-in-spec : {M : Type 1} → stated.statement M
 unfolding code.routine tablesOf
@@ -216,4 +219,4 @@ write-in-spec 𝓤 H 𝓜 𝓖 𝓡 =
     (write-in-meets 𝓤 H (𝓖 .A) (givenOf 𝓤 H 𝓜 𝓖) (𝓜 .mem) (𝓡 .run) (tablesOf 𝓤 H 𝓜 (tables 𝓤 H 𝓜 𝓡 code.env))
     (cited 𝓤 H (Wrote 𝓤 H (𝓖 .A) (𝓜 .mem) (𝓡 .run)) 𝓜 𝓡 code.env #entry·written written-def.routine code.calls-entry·written (written-thm.met 𝓤 H 𝓜 𝓖 𝓡))
     (cited 𝓤 H (RecordOf 𝓤 H (𝓖 .A) (𝓜 .mem) (𝓡 .run)) 𝓜 𝓡 code.env #entry·record-of record-of-def.routine code.calls-entry·record-of (record-of-thm.met 𝓤 H 𝓜 𝓖 𝓡))
-    (cited 𝓤 H (NumberOf 𝓤 H (𝓖 .A) (𝓜 .mem) (𝓡 .run)) 𝓜 𝓡 code.env #entry·number-of number-of-def.routine code.calls-entry·number-of (number-of-thm.met 𝓤 H 𝓜 𝓖 𝓡)))
+    (cited 𝓤 H (RefusalOf 𝓤 H (𝓖 .A) (𝓜 .mem) (𝓡 .run)) 𝓜 𝓡 code.env #entry·refusal-of refusal-of-def.routine code.calls-entry·refusal-of (refusal-of-thm.met 𝓤 H 𝓜 𝓖 𝓡)))

@@ -1,4 +1,4 @@
--- A walk of the function's MIR, by hand: the record is copied to a slot of its own, lent to the entry for a lifetime made for the call, taken back at what the entry left there, and kept with the number.
+-- A walk of the function's MIR, by hand: the record is copied to a slot of its own, lent to the entry for a lifetime made for the call, taken back at what the entry left there, and answered with the refusal.
 use mathlib.Core.Path.{_≡_, refl, _∙_}
 use Prim.Native.Nat.{ℕ, zero, suc, _<_, _^_}
 use mathlib.Core.List.{[], _∷_, List}
@@ -22,13 +22,14 @@ use sound.WpLaws.{FmC, fmOf, WpFn-mono}
 use denote.RattleType.{owns}
 use denote.Laws.{Is, shows}
 use denote.Memory.{cellAt, partAt, partOf, mem}
-use denote.Plain.{uint-vals, uint-tells, uint-makes, uint-lawful}
+use denote.Plain.{uint-vals, uint-tells, uint-makes}
 use denote.Builtin.{u32}
 use denote.Ref.{RefT, MutRef}
 use denote.Lend.{lends-ref, ref-back}
 use denote.Steps.{owned, peeks, heard, nothing}
 use denote.Struct.Steps.{spelt}
 use denote.Struct.Laws as LL
+use denote.Enum.Laws as EL
 use denote.Triple.Statement.{Contract, Triple}
 use denote.Triple.Call.{calls-at}
 use denote.Triple.Entry.{onEntry}
@@ -38,22 +39,24 @@ use denote.Triple.Walked.{says, Stays, stay-none, walkOf, AllGo, goes-none, Walk
 use denote.Exit.{yes}
 use denote.Triple.Clauses.{ensured, lasts}
 use Rattle.numbers.specs.declared.bytes.Write.{Write}
-use Rattle.parts.specs.Refusals.{numberOf}
+use Rattle.parts.specs.declared.refusals.Refusal.{Refusal}
+use Rattle.parts.proofs.refusals.Refusal as R
+use Rattle.parts.proofs.refusals.Refusal.Laws as R′
 use Rattle.coprocessor.specs.declared.Coprocessor.{Coprocessor}
 use Rattle.coprocessor.specs.Writes.{writeAnswer}
 use Rattle.coprocessor.proofs.Coprocessor as T
 use Rattle.coprocessor.proofs.Coprocessor.Laws as T′
-use Rattle.entry.specs.declared.Kept.{Kept}
-use Rattle.entry.proofs.Kept as K
-use Rattle.entry.proofs.Kept.Laws as K′
+use Rattle.coprocessor.specs.declared.Written.{Written}
+use Rattle.coprocessor.proofs.Written as K
+use Rattle.coprocessor.proofs.Written.Laws as K′
 use Rattle.entry.proofs.write_in as write-in
 use Rattle.entry.proofs.write_in.Symbol as write-in-def
 use Rattle.entry.proofs.write_in.Symbol.{name as #entry·write-in}
 use Rattle.entry.proofs.write_in.Met as write-in-thm
-use Rattle.entry.proofs.keep as keep′
-use Rattle.entry.proofs.keep.Symbol as keep-def
-use Rattle.entry.proofs.keep.Symbol.{name as #entry·keep}
-use Rattle.entry.proofs.keep.Met as keep-thm
+use Rattle.entry.proofs.answer as answer
+use Rattle.entry.proofs.answer.Symbol as answer-def
+use Rattle.entry.proofs.answer.Symbol.{name as #entry·answer}
+use Rattle.entry.proofs.answer.Met as answer-thm
 use Rattle.entry.proofs.write_own.Key.{name as #entry·write-own}
 use Rattle.entry.proofs.write_own as write-own
 use Rattle.entry.proofs.write_own.Statement as stated
@@ -72,13 +75,9 @@ words k l m = (vint w32 k ∷ [], (vint w32 l ∷ [], (vint w32 m ∷ [], tt)))
 abbrev write : ℕ → ℕ → ℕ → Write
 write k l m = record { offset = k; length = l; value = m }
 
--- what the entry's clause says of the number n and the record c that it leaves
-abbrev Left : Coprocessor → ℕ → ℕ → ℕ → ℕ → Coprocessor → Type 0
-Left h k l m n c = (n ≡ numberOf (writeAnswer (write k l m) h .refusal)) × (c ≡ writeAnswer (write k l m) h .coprocessor)
-
--- what this function leaves
-abbrev kept : Coprocessor → ℕ → ℕ → ℕ → Kept
-kept h k l m = record { number = numberOf (writeAnswer (write k l m) h .refusal); coprocessor = writeAnswer (write k l m) h .coprocessor }
+-- what the entry's clause says of the refusal n and the record c that it leaves
+abbrev Left : Coprocessor → ℕ → ℕ → ℕ → Refusal → Coprocessor → Type 0
+Left h k l m n c = (n ≡ writeAnswer (write k l m) h .refusal) × (c ≡ writeAnswer (write k l m) h .coprocessor)
 
 -- the type of the i-th local
 abbrev typeOf : List Local → ℕ → Ty
@@ -91,11 +90,11 @@ module _ {M : Type 1} (𝓤 : URA M) (H : Heap 𝓤) (A : Atoms 𝓤) (at-mem : 
   abbrev WriteIn : Contract 𝓤
   WriteIn = tripleOf 𝓤 H A write-in.signature (write-in.spec 𝓤 H A at-mem run)
 
-  abbrev Keep : Contract 𝓤
-  Keep = tripleOf 𝓤 H A keep′.signature (keep′.spec 𝓤 H A at-mem run)
+  abbrev Answer : Contract 𝓤
+  Answer = tripleOf 𝓤 H A answer.signature (answer.spec 𝓤 H A at-mem run)
 
-  keeps : (n : ℕ) (c : Coprocessor) (r : Kept) → ent 𝓤 (ensured 𝓤 H A keep′.ended (keep′.clauses 𝓤 H A at-mem run) tt (n, (c, tt)) tt r) (fact 𝓤 (r ≡ record { number = n; coprocessor = c }))
-  keeps n c r = exE 𝓤 _ (λ ws. snd∗ 𝓤 (sem 𝓤 H A (lasts keep′.ended tt (n, (c, tt)) ws)) (fact 𝓤 (r ≡ record { number = n; coprocessor = c })))
+  answers : (n : Refusal) (c : Coprocessor) (r : Written) → ent 𝓤 (ensured 𝓤 H A answer.ended (answer.clauses 𝓤 H A at-mem run) tt (n, (c, tt)) tt r) (fact 𝓤 (r ≡ record { refusal = n; coprocessor = c }))
+  answers n c r = exE 𝓤 _ (λ ws. snd∗ 𝓤 (sem 𝓤 H A (lasts answer.ended tt (n, (c, tt)) ws)) (fact 𝓤 (r ≡ record { refusal = n; coprocessor = c })))
 
 module _ {M : Type 1} (𝓤 : URA M) (H : Heap 𝓤) (A : Atoms 𝓤) (W : Given 𝓤 H A) (at-mem : Memory → SProp 𝓤) (run : Routine → Fun 𝓤) (h : Coprocessor) (k l m : ℕ) where
   abbrev x : Coprocessor × (ℕ × (ℕ × (ℕ × Unit {0})))
@@ -108,7 +107,7 @@ module _ {M : Type 1} (𝓤 : URA M) (H : Heap 𝓤) (A : Atoms 𝓤) (W : Given
   Post = walkOf 𝓤 H A write-own.ended stayed (write-own.clauses 𝓤 H A at-mem run) .post ((tt, tt, tt, x, at), tt)
 
   module _ (is : Is T.the-row h (vals h)) (fk : k < 2 ^ 32) (fl : l < 2 ^ 32) (fm : m < 2 ^ 32) where
-    exits : (r : Kept) (v : Val) → r ≡ kept h k l m → ent 𝓤 (sem 𝓤 H A (K.the-row .own r (v ∷ []))) (Post v)
+    exits : (r : Written) (v : Val) → r ≡ writeAnswer (write k l m) h → ent 𝓤 (sem 𝓤 H A (K.the-row .own r (v ∷ []))) (Post v)
     exits r v e =
         qed W (‵ (K.the-row .own r (v ∷ [])) ∷ []) ∵
         suffices ! _ (ends-at 𝓤 H A write-own.ended stayed (write-own.clauses 𝓤 H A at-mem run) W ((tt, tt, tt, x, at), tt) v r (tt, (tt, (tt, (tt, tt)))) (tt, (tt, (tt, (tt, tt))))) $
@@ -130,15 +129,15 @@ module _ {M : Type 1} (𝓤 : URA M) (H : Heap 𝓤) (A : Atoms 𝓤) (W : Given
           owned ! u32 (Is u32) (uint-makes 𝓤 H A W w32) m _ (refl, fm) $ join ! $ owned ! u32 (Is u32) (uint-makes 𝓤 H A W w32) l _ (refl, fl) $ join ! $
           owned ! u32 (Is u32) (uint-makes 𝓤 H A W w32) k _ (refl, fk) $ join ! $ move ! (1 ∷ 0 ∷ []) $ join ! $ nothing ! $ move ! (2 ∷ 0 ∷ []) $ join ! $ join ! $ frame ! $ done !
 
-  abbrev to-keep : ℕ → Coprocessor → Val → Keep 𝓤 H A at-mem run .Ghost
-  to-keep n c v = ((tt, tt, tt, (n, (c, tt)), (v ∷ [], (vals c, tt))), tt)
+  abbrev to-answer : Refusal → Coprocessor → Val → Answer 𝓤 H A at-mem run .Ghost
+  to-answer n c v = ((tt, tt, tt, (n, (c, tt)), (v ∷ [], (vals c, tt))), tt)
 
-  goes-keep : (n : ℕ) (c : Coprocessor) (v : Val) → ent 𝓤 (sep 𝓤 (sem 𝓤 H A (u32 .own n (v ∷ []))) (sem 𝓤 H A (T.the-row .own c (vals c)))) (Keep 𝓤 H A at-mem run .pre (to-keep n c v))
-  goes-keep n c v =
-      qed W (‵ (u32 .own n (v ∷ [])) ∷ ‵ (T.the-row .own c (vals c)) ∷ []) ∵ nothing ! $ move ! (2 ∷ 0 ∷ []) $ join ! $ move ! (1 ∷ 0 ∷ []) $ join ! $ nothing ! $ join ! $ frame ! $ done !
+  goes-answer : (n : Refusal) (c : Coprocessor) (v : Val) → ent 𝓤 (sep 𝓤 (sem 𝓤 H A (R.the-row .own n (v ∷ []))) (sem 𝓤 H A (T.the-row .own c (vals c)))) (Answer 𝓤 H A at-mem run .pre (to-answer n c v))
+  goes-answer n c v =
+      qed W (‵ (R.the-row .own n (v ∷ [])) ∷ ‵ (T.the-row .own c (vals c)) ∷ []) ∵ nothing ! $ move ! (2 ∷ 0 ∷ []) $ join ! $ move ! (1 ∷ 0 ∷ []) $ join ! $ nothing ! $ join ! $ frame ! $ done !
 
   module _ (C : Calls 𝓤 H) (Λ : Loops 𝓤 H) (fm : FmC 𝓤 H (W .laws) C) (known-entry : Triple 𝓤 (C #entry·write-in) (WriteIn 𝓤 H A at-mem run))
-      (known-keep : Triple 𝓤 (C #entry·keep) (Keep 𝓤 H A at-mem run)) where
+      (known-answer : Triple 𝓤 (C #entry·answer) (Answer 𝓤 H A at-mem run)) where
     walk : ent 𝓤 (onEntry 𝓤 H A write-own.signature tt tt x at) (WpFn 𝓤 H C Λ code.function (LL.val T.the-type T′.the-laws h ∷ vint w32 k ∷ vint w32 l ∷ vint w32 m ∷ []) Post)
     unfolding partOf
     walk =
@@ -160,33 +159,33 @@ module _ {M : Type 1} (𝓤 : URA M) (H : Heap 𝓤) (A : Atoms 𝓤) (W : Given
         use1 W (later (some (λ (δ : GName). ‵ (MutRef (named 0) (α ∷ []) T.the-row .own (record { ptr = (l₅, 0); name = δ; now = h }) (vptr l₅ 0 ∷ [])) ⊛ ‵ (flent (α ∷ []) (Body (mem T.the-row) l₅ 0 δ))))) (lends-ref 𝓤 H A W T.the-row (named 0) (α ∷ []) h l₅ 0) $
         await ! tt $ pick ! (λ δ. split ! $ move ! (0 ∷ 2 ∷ []) $ use2 W (raw (WriteIn 𝓤 H A at-mem run .pre (to-entry is (gk .1) (gl .1) (gm .1) α l₅ δ))) (goes-entry is (gk .1) (gl .1) (gm .1) α l₅ δ) $
         calls-at ! fm (WriteIn 𝓤 H A at-mem run) known-entry (to-entry is (gk .1) (gl .1) (gm .1) α l₅ δ) (and-then ! (load ! (from ! (stop !)) (look ! 4 refl)) (and-then ! (load ! (from ! (stop !)) (look ! 13 refl)) (and-then ! (load ! (from ! (stop !)) (look ! 11 refl)) (and-then ! (load ! (from ! (stop !)) (look ! 9 refl)) (no-more !))))) (λ v.
-        use1 W (later (some (λ (n : ℕ). ((‵ (flft (α ∷ []) fullShare) ⊛ ‵ ftrue) ⊛ ‵ (u32 .own n (v ∷ []))) ⊛ raw (ensured 𝓤 H A write-in.ended (write-in.clauses 𝓤 H A at-mem run) (α ∷ [], tt) (lent is (gk .1) (gl .1) (gm .1) α l₅ δ, (k, (l, (m, tt)))) tt n)))) (id⊢ 𝓤 _) $ await ! tt $ pick ! (λ n.
+        use1 W (later (some (λ (n : Refusal). ((‵ (flft (α ∷ []) fullShare) ⊛ ‵ ftrue) ⊛ ‵ (R.the-row .own n (v ∷ []))) ⊛ raw (ensured 𝓤 H A write-in.ended (write-in.clauses 𝓤 H A at-mem run) (α ∷ [], tt) (lent is (gk .1) (gl .1) (gm .1) α l₅ δ, (k, (l, (m, tt)))) tt n)))) (id⊢ 𝓤 _) $ await ! tt $ pick ! (λ n.
         split ! $ move ! (1 ∷ []) $ use1 W (some (λ (ws : Coprocessor × (Unit {0} × (Unit {0} × (Unit {0} × Unit {0})))). ‵ (lasts write-in.ended (α ∷ [], tt) (lent is (gk .1) (gl .1) (gm .1) α l₅ δ, (k, (l, (m, tt)))) ws) ⊛ raw (fact 𝓤 (Left h k l m n (ws .0))))) (id⊢ 𝓤 _) $ pick ! (λ ws.
         split ! $ move ! (1 ∷ []) $ heard ! (Left h k l m n (ws .0)) (λ e. fsplit ! $
         -- the lifetime ends, and the record comes back at the entry's last value
         move ! (2 ∷ []) $ split ! $ split ! $ lft-end ! tt $ move ! (0 ∷ 5 ∷ 3 ∷ []) $ use3 W (later (‵ (partAt T.the-row fullShare (ws .0) l₅ 0))) (ref-back 𝓤 H A W T.the-row (α ∷ []) δ (ws .0) l₅ 0) $ await ! tt $
         fpick ! (λ vs. fsplit ! $ spelt ! T.the-row (Is T.the-row) (shows 𝓤 H A T.the-row) vals (LL.tells T.the-type T′.the-laws) fullShare (ws .0) vs l₅ 0 $
         use1 W (‵ (fat fullShare (typeOf (code.function .locals) 5) l₅ 0 (LL.val T.the-type T′.the-laws (ws .0)))) (W .laws .raw-at fullShare (typeOf (code.function .locals) 5) l₅ 0 _) $
-        move ! (3 ∷ []) $ peeks ! u32 (Is u32) (shows 𝓤 H A u32) n (v ∷ []) (λ isn. land ! (from ! (stop !)) (init ! 9 refl (uint-lawful 𝓤 H A W w32 .typed n _ isn .0)) $
+        move ! (3 ∷ []) $ peeks ! R.the-row (Is R.the-row) (shows 𝓤 H A R.the-row) n (v ∷ []) (λ isn. land ! (from ! (stop !)) (init ! 9 refl (EL.lawful R.the-type R′.the-laws 𝓤 H A W tt .typed n _ isn .0)) $
         move ! (2 ∷ []) $ peeks ! T.the-row (Is T.the-row) (shows 𝓤 H A T.the-row) (ws .0) (vals (ws .0)) (λ isc.
         assigns ! (of-opd ! (load ! (from ! (stop !)) (look ! 2 refl))) (from ! (stop !)) (init ! 5 refl (LL.lawful T.the-type T′.the-laws 𝓤 H A W .typed (ws .0) _ isc .0)) $
-        move ! (1 ∷ 0 ∷ []) $ use2 W (raw (Keep 𝓤 H A at-mem run .pre (to-keep n (ws .0) v))) (goes-keep n (ws .0) v) $
-        calls-at ! fm (Keep 𝓤 H A at-mem run) known-keep (to-keep n (ws .0) v) (and-then ! (load ! (from ! (stop !)) (look ! 8 refl)) (and-then ! (load ! (from ! (stop !)) (look ! 4 refl)) (no-more !))) (λ v′.
-        use1 W (later (some (λ (r : Kept). (‵ ftrue ⊛ ‵ (K.the-row .own r (v′ ∷ []))) ⊛ raw (ensured 𝓤 H A keep′.ended (keep′.clauses 𝓤 H A at-mem run) tt (n, (ws .0, tt)) tt r)))) (id⊢ 𝓤 _) $ await ! tt $ pick ! (λ r.
-        split ! $ move ! (1 ∷ []) $ use1 W (raw (fact 𝓤 (r ≡ record { number = n; coprocessor = ws .0 }))) (keeps 𝓤 H A at-mem run n (ws .0) r) $ heard ! (r ≡ record { number = n; coprocessor = ws .0 }) (λ e′. split ! $ drop ! $
+        move ! (1 ∷ 0 ∷ []) $ use2 W (raw (Answer 𝓤 H A at-mem run .pre (to-answer n (ws .0) v))) (goes-answer n (ws .0) v) $
+        calls-at ! fm (Answer 𝓤 H A at-mem run) known-answer (to-answer n (ws .0) v) (and-then ! (load ! (from ! (stop !)) (look ! 8 refl)) (and-then ! (load ! (from ! (stop !)) (look ! 4 refl)) (no-more !))) (λ v′.
+        use1 W (later (some (λ (r : Written). (‵ ftrue ⊛ ‵ (K.the-row .own r (v′ ∷ []))) ⊛ raw (ensured 𝓤 H A answer.ended (answer.clauses 𝓤 H A at-mem run) tt (n, (ws .0, tt)) tt r)))) (id⊢ 𝓤 _) $ await ! tt $ pick ! (λ r.
+        split ! $ move ! (1 ∷ []) $ use1 W (raw (fact 𝓤 (r ≡ record { refusal = n; coprocessor = ws .0 }))) (answers 𝓤 H A at-mem run n (ws .0) r) $ heard ! (r ≡ record { refusal = n; coprocessor = ws .0 }) (λ e′. split ! $ drop ! $
         peeks ! K.the-row (Is K.the-row) (shows 𝓤 H A K.the-row) r (v′ ∷ []) (λ isr. land ! (from ! (stop !)) (init ! 19 refl (LL.lawful K.the-type K′.the-laws 𝓤 H A W .typed r _ isr .0)) $
         returns ! (look ! 19 refl) $ forget ! 1 refl $ forget ! 4 refl $ forget ! 6 refl $ forget ! 8 refl $ forget ! 11 refl $ forget ! 13 refl $ forget ! 15 refl $ forget ! 17 refl $ forget ! 19 refl $
         move ! (19 ∷ 20 ∷ []) $ free1 ! $ move ! (17 ∷ 18 ∷ []) $ free1 ! $ move ! (15 ∷ 16 ∷ []) $ free1 ! $ move ! (13 ∷ 14 ∷ []) $ free1 ! $ move ! (11 ∷ 12 ∷ []) $ free1 ! $ move ! (1 ∷ 10 ∷ []) $ free1 ! $ move ! (7 ∷ 8 ∷ []) $ free1 ! $ move ! (5 ∷ 6 ∷ []) $ free1 ! $ move ! (3 ∷ 4 ∷ []) $ free1 ! $ free0 ! $
-        keep ! (0 ∷ []) $ by ! (exits is (gk .1) (gl .1) (gm .1) r v′ (e′ ∙ (λ i. record { number = e .0 i; coprocessor = e .1 i })))))))))))))))))))))))))))))
+        keep ! (0 ∷ []) $ by ! (exits is (gk .1) (gl .1) (gm .1) r v′ (e′ ∙ (λ i. record { refusal = e .0 i; coprocessor = e .1 i })))))))))))))))))))))))))))))
 
 module _ {M : Type 1} (𝓤 : URA M) (H : Heap 𝓤) (A : Atoms 𝓤) (W : Given 𝓤 H A) (at-mem : Memory → SProp 𝓤) (run : Routine → Fun 𝓤) where
   write-own-walks : (C : Calls 𝓤 H) (Λ : Loops 𝓤 H) → FmC 𝓤 H (W .laws) C → Triple 𝓤 (C #entry·write-in) (WriteIn 𝓤 H A at-mem run)
-      → Triple 𝓤 (C #entry·keep) (Keep 𝓤 H A at-mem run) → Walks 𝓤 H A write-own.ended stayed (WpFn 𝓤 H C Λ code.function) (write-own.clauses 𝓤 H A at-mem run)
-  write-own-walks C Λ fm known-entry known-keep =
+      → Triple 𝓤 (C #entry·answer) (Answer 𝓤 H A at-mem run) → Walks 𝓤 H A write-own.ended stayed (WpFn 𝓤 H C Λ code.function) (write-own.clauses 𝓤 H A at-mem run)
+  write-own-walks C Λ fm known-entry known-answer =
       walked 𝓤 H A write-own.ended stayed (write-own.clauses 𝓤 H A at-mem run) (WpFn 𝓤 H C Λ code.function)
       (λ κs. (vals, (uint-vals w32, (uint-vals w32, (uint-vals w32, tt)))))
       (λ κs. (LL.tells T.the-type T′.the-laws, (uint-tells w32, (uint-tells w32, (uint-tells w32, tt)))))
-      (λ κs qs bounds a _ _. via 𝓤 _ (fst∗ 𝓤 _ (emp 𝓤)) (walk 𝓤 H A W at-mem run (a .0) (a .1 .0) (a .1 .1 .0) (a .1 .1 .1 .0) C Λ fm known-entry known-keep))
+      (λ κs qs bounds a _ _. via 𝓤 _ (fst∗ 𝓤 _ (emp 𝓤)) (walk 𝓤 H A W at-mem run (a .0) (a .1 .0) (a .1 .1 .0) (a .1 .1 .1 .0) C Λ fm known-entry known-answer))
 
   goes : AllGo 𝓤 H A W 0 (write-own.signature .params) (write-own.ended .kept) stayed
   goes = (
@@ -198,11 +197,11 @@ module _ {M : Type 1} (𝓤 : URA M) (H : Heap 𝓤) (A : Atoms 𝓤) (W : Given
   )
 
 write-own-meets : {M : Type 1} (𝓤 : URA M) (H : Heap 𝓤) (A : Atoms 𝓤) → Given 𝓤 H A → (at-mem : Memory → SProp 𝓤) (run : Routine → Fun 𝓤) (𝓣 : Tables 𝓤 H)
-    → Triple 𝓤 (𝓣 .C #entry·write-in) (WriteIn 𝓤 H A at-mem run) → Triple 𝓤 (𝓣 .C #entry·keep) (Keep 𝓤 H A at-mem run)
+    → Triple 𝓤 (𝓣 .C #entry·write-in) (WriteIn 𝓤 H A at-mem run) → Triple 𝓤 (𝓣 .C #entry·answer) (Answer 𝓤 H A at-mem run)
     → Meets 𝓤 H A write-own.signature (WpFn 𝓤 H (𝓣 .C) (𝓣 .Λ) code.function) (write-own.spec 𝓤 H A at-mem run)
-write-own-meets 𝓤 H A W at-mem run 𝓣 known-entry known-keep =
+write-own-meets 𝓤 H A W at-mem run 𝓣 known-entry known-answer =
     walk-meets 𝓤 H A write-own.ended stayed W (goes 𝓤 H A W at-mem run) (write-own.clauses 𝓤 H A at-mem run) (WpFn 𝓤 H (𝓣 .C) (𝓣 .Λ) code.function)
-    (WpFn-mono 𝓤 H (W .laws) 𝓣 code.function) (write-own-walks 𝓤 H A W at-mem run (𝓣 .C) (𝓣 .Λ) (fmOf 𝓤 H (W .laws) 𝓣) known-entry known-keep)
+    (WpFn-mono 𝓤 H (W .laws) 𝓣 code.function) (write-own-walks 𝓤 H A W at-mem run (𝓣 .C) (𝓣 .Λ) (fmOf 𝓤 H (W .laws) 𝓣) known-entry known-answer)
 
 pub write-own-spec : {M : Type 1} → stated.statement M
 unfolding code.routine tablesOf
@@ -211,4 +210,4 @@ write-own-spec 𝓤 H 𝓜 𝓖 𝓡 =
     (tables 𝓤 H 𝓜 𝓡 code.env .C) (tables 𝓤 H 𝓜 𝓡 code.env .Λ) #entry·write-own code.function (code.unfolded 𝓤 H 𝓜 𝓡)
     (write-own-meets 𝓤 H (𝓖 .A) (givenOf 𝓤 H 𝓜 𝓖) (𝓜 .mem) (𝓡 .run) (tablesOf 𝓤 H 𝓜 (tables 𝓤 H 𝓜 𝓡 code.env))
     (cited 𝓤 H (WriteIn 𝓤 H (𝓖 .A) (𝓜 .mem) (𝓡 .run)) 𝓜 𝓡 code.env #entry·write-in write-in-def.routine code.calls-entry·write-in (write-in-thm.met 𝓤 H 𝓜 𝓖 𝓡))
-    (cited 𝓤 H (Keep 𝓤 H (𝓖 .A) (𝓜 .mem) (𝓡 .run)) 𝓜 𝓡 code.env #entry·keep keep-def.routine code.calls-entry·keep (keep-thm.met 𝓤 H 𝓜 𝓖 𝓡)))
+    (cited 𝓤 H (Answer 𝓤 H (𝓖 .A) (𝓜 .mem) (𝓡 .run)) 𝓜 𝓡 code.env #entry·answer answer-def.routine code.calls-entry·answer (answer-thm.met 𝓤 H 𝓜 𝓖 𝓡)))

@@ -1,0 +1,23 @@
+-- `take_byte` ends the line at a newline, and gathers any other byte.
+use borrow.Author.Tests.{eq-eqb, ne-eqb}
+use borrow.Author.Needs.{needs}
+use Rattle.bench.specs.Session.{sessionOf, byteGathered, byteTaken}
+use Rattle.bench.proofs.take_byte.Statement.{statement}
+use Rattle.bench.proofs.take_byte.Tie as tie
+
+end-line-requires : tie.Need-end-line-requires
+end-line-requires c κs = search needs
+
+returns : tie.Need-returns
+unfolding byteTaken
+returns c = rw (eq-eqb _ _ (c .before .before .before .if1 .taken)) (c .end-line .ensures)
+
+gather-requires : tie.Need-gather-requires
+gather-requires c κs = search needs
+
+returns-2 : tie.Need-returns-2
+unfolding sessionOf byteGathered byteTaken
+returns-2 c = rw (ne-eqb _ _ (c .before .before .before .if1 .left)) (λ i. record { board = c .before .before .before .before .args .bench .board; memory = c .before .before .before .before .args .memory .now; buffer = c .gather .ensures .1 i; count = c .gather .ensures .0 i; line = c .before .before .before .before .args .bench .line })
+
+pub take-byte-spec : {M : Type 1} → statement M
+take-byte-spec = tie.close (tie.spec end-line-requires returns gather-requires returns-2)

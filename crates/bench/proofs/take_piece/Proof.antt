@@ -1,0 +1,51 @@
+-- `take_piece` takes byte after byte: those taken and those left make the whole.
+use mathlib.Core.Path.{_≡_, refl, sym, _∙_}
+use Prim.Native.Nat.{_-_, _≤_}
+use native.Mathlib.Omega.{arith}
+use lib.ListN.{length, drop}
+use borrow.Author.Needs.{needs}
+use Rattle.bench.specs.Session.{sessionOf, bytesTaken}
+use Rattle.bench.proofs.SessionLaws.{bytes-on, bytes-end}
+use Rattle.bench.proofs.take_piece.Statement.{statement}
+use Rattle.bench.proofs.take_piece.Tie as tie
+
+abbrev Inv-loop : tie.InvT-loop
+Inv-loop piece buffer₀ memory₀ state₀ i₀ buffer memory state i = (i ≤ length piece) × (bytesTaken (drop i piece) (sessionOf state memory buffer) ≡ bytesTaken piece (sessionOf state₀ memory₀ buffer₀))
+
+abbrev μ-loop : tie.MeasureT-loop
+μ-loop piece buffer₀ memory₀ state₀ i₀ buffer memory state i = length piece - i
+
+loop-holds : tie.Need-loop-holds Inv-loop μ-loop
+loop-holds c = (omega arith, refl)
+
+shared-slice-read-take-byte : tie.Need-shared-slice-read-take-byte Inv-loop μ-loop
+shared-slice-read-take-byte c = omega arith
+
+take-byte-requires : tie.Need-take-byte-requires Inv-loop μ-loop
+take-byte-requires c κs = search needs
+
+add-i : tie.Need-add-i Inv-loop μ-loop
+add-i c = omega arith
+
+loop-less : tie.Need-loop-less Inv-loop μ-loop
+loop-less c = omega arith
+
+loop-again : tie.Need-loop-again Inv-loop μ-loop
+loop-again c = (omega arith, rw (c .take-byte .ensures) (sym (bytes-on _ _ _ (c .before .before .before .before .loop-test .taken)) ∙ c .before .before .before .before .before .loop .inv .1))
+
+returns : tie.Need-returns Inv-loop μ-loop
+returns c = sym (bytes-end _ _ _ (c .loop-test .left)) ∙ c .before .loop .inv .1
+
+pub take-piece-spec : {M : Type 1} → statement M
+take-piece-spec =
+    tie.close
+    (tie.spec
+    Inv-loop
+    μ-loop
+    loop-holds
+    shared-slice-read-take-byte
+    take-byte-requires
+    add-i
+    loop-less
+    loop-again
+    returns)

@@ -1,0 +1,29 @@
+-- `run_call` finds one word and what follows: if nothing does, it is the only word, and otherwise there are more.
+use native.Mathlib.Nat.{pos-of-ne-zero}
+use borrow.Author.Needs.{needs}
+use Rattle.lines.proofs.CallLaws.{run-one, run-more}
+use Rattle.lines.proofs.calls.run_call.Statement.{statement}
+use Rattle.lines.proofs.calls.run_call.Tie as tie
+
+skip-requires : tie.Need-skip-requires
+skip-requires c κs = search needs
+
+next-requires : tie.Need-next-requires
+next-requires c κs = search needs
+
+returns : tie.Need-returns
+returns c = run-more _ (rw (← c .before .before .skip .ensures, ← c .before .next .ensures) (pos-of-ne-zero (c .if1 .taken)))
+
+number-at-requires : tie.Need-number-at-requires
+number-at-requires c κs = search needs
+
+run-of-requires : tie.Need-run-of-requires
+run-of-requires c κs = search needs
+
+returns-2 : tie.Need-returns-2
+returns-2 c = rw (c .run-of .ensures, c .before .number-at .ensures, c .before .before .before .before .skip .ensures) (run-one _ (rw (← c .before .before .before .before .skip .ensures, ← c .before .before .before .next .ensures) (c .before .before .if1 .left)))
+
+pub run-call-spec : {M : Type 1} → statement M
+run-call-spec =
+    tie.close
+    (tie.spec skip-requires next-requires returns number-at-requires run-of-requires returns-2)

@@ -1,0 +1,53 @@
+-- What a line asks for.
+use mathlib.Core.Bool.{Bool, false, _||_}
+use mathlib.Core.List.{List, [], _∷_}
+use Prim.Native.Nat.{ℕ}
+use lib.Dec.{eqb}
+use Rattle.numbers.specs.Choose.{choose}
+use Rattle.lines.specs.declared.Number.{Number}
+use Rattle.lines.specs.declared.Number.the-variants.{Is, Not}
+use Rattle.lines.specs.declared.Call.{Call}
+use Rattle.lines.specs.declared.Call.the-variants.{Write, Run, Blank, Neither}
+use Rattle.lines.specs.Words.{wordsOf}
+use Rattle.lines.specs.Digits.{numberOf}
+
+-- docs/DECISIONS.md: a word of one letter, in upper or lower case
+unfoldable pub isLetter : ℕ → ℕ → List ℕ → Bool
+isLetter upper lower [] = false
+isLetter upper lower (byte ∷ []) = eqb byte upper || eqb byte lower
+isLetter upper lower (byte ∷ next ∷ bytes) = false
+
+-- a write, if all three are numbers
+unfoldable pub writeOf : Number → Number → Number → Call
+writeOf (Is offset) (Is length) (Is value) = Write offset length value
+writeOf (Is offset) (Is length) Not = Neither
+writeOf (Is offset) Not value = Neither
+writeOf Not length value = Neither
+
+unfoldable pub runOf : Number → Call
+runOf (Is allowance) = Run allowance
+runOf Not = Neither
+
+-- 01, the bench program: `w offset length value` (hex, length decimal); extra words make it neither
+unfoldable pub writeFrom : List (List ℕ) → Call
+writeFrom [] = Neither
+writeFrom (offset ∷ []) = Neither
+writeFrom (offset ∷ length ∷ []) = Neither
+writeFrom (offset ∷ length ∷ value ∷ []) = writeOf (numberOf 16 offset) (numberOf 10 length) (numberOf 16 value)
+writeFrom (offset ∷ length ∷ value ∷ extra ∷ more) = Neither
+
+-- 01, the bench program: `r allowance` (decimal)
+unfoldable pub runFrom : List (List ℕ) → Call
+runFrom [] = Neither
+runFrom (allowance ∷ []) = runOf (numberOf 10 allowance)
+runFrom (allowance ∷ extra ∷ more) = Neither
+
+-- by the first word: W or w (87, 119) writes, R or r (82, 114) runs
+unfoldable pub callFrom : List (List ℕ) → Call
+callFrom [] = Blank
+callFrom (name ∷ words) =
+    choose (isLetter 87 119 name) (writeFrom words) (choose (isLetter 82 114 name) (runFrom words) Neither)
+
+-- 01, the bench program: the call that a line is
+unfoldable pub callOf : List ℕ → Call
+callOf line = callFrom (wordsOf line)
