@@ -5,7 +5,7 @@ use lib.ListN.{length, set}
 use lib.Dec.{ltb, eqb}
 use Rattle.numbers.specs.Choose.{choose}
 use Rattle.coprocessor.specs.declared.Coprocessor.{Coprocessor}
-use Rattle.lines.specs.Answers.{toldOf, memoryAfter}
+use Rattle.answers.specs.Answers.{toldOf, memoryAfter}
 use Rattle.lines.specs.Gathered.{countAfter, callIn}
 use Rattle.bench.specs.declared.Bench.{Bench}
 
@@ -25,7 +25,7 @@ sessionOf bench memory buffer =
 unfoldable pub lineAfter : ℕ → ℕ
 lineAfter line = choose (ltb line 18446744073709551615) (line + 1) line
 
--- at a line's end its call is done, and the next line begins
+-- 01, the bench program: at a line's end its call is done, and the next line begins
 unfoldable pub lineEnded : Session → Session
 lineEnded s =
     record {
@@ -36,7 +36,7 @@ lineEnded s =
       line = lineAfter (s .line);
     }
 
--- any other byte goes into the line
+-- docs/DECISIONS.md, 44: any other byte goes into the line
 unfoldable pub byteGathered : ℕ → Session → Session
 byteGathered byte s =
     record {

@@ -1,16 +1,16 @@
 // The bench: reads calls line by line from standard input, does them over 64 zero bytes, answers each, and shows the memory.
 ghost use mathlib.Core.Path.{_≡_};
 ghost use Rattle.bench.specs.Session.{sessionOf, lineAfter, lineEnded, byteTaken, bytesTaken};
+use answers::obey;
 use coprocessor::Coprocessor;
 use libc::STDIN_FILENO;
 use libc::STDOUT_FILENO;
-use lines::Answer;
-use lines::answers::obey;
 use lines::gather::call_in;
 use lines::gather::gather;
-use lines::texts::answer_text;
-use lines::texts::memory_text;
 use parts::reduced::both;
+use texts::Answer;
+use texts::answer_text;
+use texts::memory_text;
 
 // The bench between two bytes: the record, the bytes of the line under way, that line's number, and whether to go on.
 struct Bench {

@@ -17,7 +17,7 @@ use Rattle.coprocessor.specs.Images.{loads, loaded, saveRefusal, saved}
 abbrev pub noImage : ℕ
 noImage = 10
 
--- a refusal and a value in one number of 64 bits
+-- docs/DECISIONS.md, 32: a refusal and a value in one number of 64 bits
 unfoldable pub answerOf : Refusal → ℕ → ℕ
 answerOf refusal value = numberOf refusal * 2 ^ 32 + value
 

@@ -1,4 +1,4 @@
--- That the coprocessor draws: for every function, pixel size and mix a drawing of one position, and what it does to memory.
+-- docs/DECISIONS.md, 40: that the coprocessor draws: for every function, pixel size and mix a drawing of one position, and what it does to memory.
 use Prim.Native.Nat.{ℕ, zero, suc, _+_, _*_}
 use mathlib.Core.Bool.{_||_}
 use mathlib.Core.List.{List, [], _∷_, _++_}

@@ -168,7 +168,7 @@ unfoldable pub noImage : Play
 noImage =
     record { bytes = zeros 1; calls = write 0x50 4 0xFF ∷ unsaved 114 10 ∷ unloaded (zeros 115) 10 ∷ read 0x50 4 0xFF ∷ [] }
 
--- 01, point 3: a line cut after its first position and carried to a coprocessor of another size goes on where it was
+-- 01, How tight the promises are, point 3: a line cut after its first position and carried to a coprocessor of another size goes on where it was
 unfoldable pub cutLine : Play
 cutLine =
     record {

@@ -17,7 +17,7 @@ use Rattle.coprocessor.specs.Reads.{wordsOf}
 
 -- ---- the record as bytes
 
--- the drawing as its counters, and the registers as they read back
+-- 01, State image; docs/DECISIONS.md, 28: the drawing as its counters, and the registers as they read back
 unfoldable pub fieldsOf : Coprocessor → List Field
 fieldsOf c = fieldsBy (countersOf (c .drawing)) (wordsOf c) (c .size) (c .index) (c .maps)
 

@@ -15,7 +15,7 @@ countersOf (Line done) = record { state = 1; done = done; gone = 0; count = 0 }
 countersOf (Codes count code done) = record { state = 1; done = done; gone = code; count = count }
 countersOf (Block column row) = record { state = 1; done = column; gone = row; count = 0 }
 
--- the drawing that these counters are, by the stored function
+-- docs/DECISIONS.md, 31: the drawing that these counters are, by the stored function
 unfoldable pub drawingOf : ℕ → Counters → Drawing
 drawingOf operations k =
     choose (eqb (k .state) 0) (Nothing false)

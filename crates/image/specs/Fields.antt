@@ -47,6 +47,6 @@ unfoldable pub bankFields : List ℕ → List Field
 bankFields words =
     wordFields words 8 4 ++ (3 bytes (getD words 18 0)) ∷ wordFields words 19 6 ++ wordFields words 27 5
 
--- the drawing as these counters, and the registers as these words
+-- 01, State image: the drawing as these counters, and the registers as these words
 unfoldable pub fieldsBy : Counters → List ℕ → ℕ → ℕ → List Map → List Field
 fieldsBy k words size index maps = headFields k size index ++ mapsFields maps ++ bankFields words

@@ -2,6 +2,5 @@ pub mod ScanLaws
 pub mod DigitLaws
 pub mod WordLaws
 pub mod CallLaws
-pub mod TextLaws
 pub mod GatherLaws
 pub mod Examples

@@ -11,7 +11,7 @@ use Rattle.lines.specs.declared.Call.the-variants.{Write, Run, Blank, Ne
 use Rattle.lines.specs.Words.{wordsOf}
 use Rattle.lines.specs.Digits.{numberOf}
 
--- docs/DECISIONS.md: a word of one letter, in upper or lower case
+-- docs/DECISIONS.md, 44: a word of one letter, in upper or lower case
 unfoldable pub isLetter : ℕ → ℕ → List ℕ → Bool
 isLetter upper lower [] = false
 isLetter upper lower (byte ∷ []) = eqb byte upper || eqb byte lower
@@ -42,7 +42,7 @@ runFrom [] = Neither
 runFrom (allowance ∷ []) = runOf (numberOf 10 allowance)
 runFrom (allowance ∷ extra ∷ more) = Neither
 
--- by the first word: W or w (87, 119) writes, R or r (82, 114) runs
+-- 01, the bench program; docs/DECISIONS.md, 44: by the first word, W or w (87, 119) writes, R or r (82, 114) runs
 unfoldable pub callFrom : List (List ℕ) → Call
 callFrom [] = Blank
 callFrom (name ∷ words) =

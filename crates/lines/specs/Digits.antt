@@ -7,7 +7,7 @@ use Rattle.numbers.specs.Choose.{choose}
 use Rattle.lines.specs.declared.Number.{Number}
 use Rattle.lines.specs.declared.Number.the-variants.{Is, Not}
 
--- a digit's value: 0 to 9, then A to F or a to f; 16 for what is no digit
+-- docs/DECISIONS.md, 44: a digit's value, 0 to 9, then A to F or a to f; 16 for what is no digit
 unfoldable pub digitOf : ℕ → ℕ
 digitOf byte =
     choose (leb 48 byte && leb byte 57) (byte - 48)
@@ -25,7 +25,7 @@ unfoldable pub value : ℕ → ℕ → List ℕ → ℕ
 value base n [] = n
 value base n (byte ∷ bytes) = value base (n * base + digitOf byte) bytes
 
--- docs/DECISIONS.md: a number that does not fit 32 bits is none; leading zeros do no harm
+-- docs/DECISIONS.md, 44: a number that does not fit 32 bits is none; leading zeros do no harm
 unfoldable pub numberFrom : ℕ → ℕ → List ℕ → Number
 numberFrom base n bytes = choose (digits base bytes && ltb (value base n bytes) (2 ^ 32)) (Is (value base n bytes)) Not
 

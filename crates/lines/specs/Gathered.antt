@@ -25,6 +25,6 @@ unfoldable pub countsAfter : ℕ → ℕ → List ℕ → ℕ
 countsAfter size count [] = count
 countsAfter size count (byte ∷ bytes) = countsAfter size (countAfter size count) bytes
 
--- docs/DECISIONS.md: a line longer than the buffer is neither, whatever it holds
+-- docs/DECISIONS.md, 44: a line longer than the buffer is neither, whatever it holds
 unfoldable pub lineCall : ℕ → List ℕ → Call
 lineCall size line = choose (leb (length line) size) (callOf line) Neither

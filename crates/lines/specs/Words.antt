@@ -5,7 +5,7 @@ use Prim.Native.Nat.{ℕ}
 use lib.Dec.{eqb}
 use Rattle.numbers.specs.Choose.{choose}
 
--- docs/DECISIONS.md: words are separated by blanks (32) or tabs (9), and a carriage return (13) counts as a blank
+-- docs/DECISIONS.md, 44: words are separated by blanks (32) or tabs (9), and a carriage return (13) counts as a blank
 unfoldable pub isBlank : ℕ → Bool
 isBlank byte = eqb byte 32 || eqb byte 9 || eqb byte 13
 

@@ -1,16 +1,16 @@
 // What a line asks for.
-use crate::Call;
-use crate::Number;
-use crate::digits::number;
-use crate::words::next;
-use crate::words::skip;
-use crate::words::word;
 ghost use mathlib.Core.Path.{_≡_};
 ghost use Prim.Native.Nat.{_≤_};
 ghost use Rattle.lines.specs.Digits.{numberOf};
 ghost use Rattle.lines.specs.Words.{wordsOf};
 ghost use Rattle.lines.specs.Scans.{wordOf};
 ghost use Rattle.lines.specs.Calls.{isLetter, writeOf, runOf, writeFrom, runFrom, callOf};
+use crate::Call;
+use crate::Number;
+use crate::digits::number;
+use crate::words::next;
+use crate::words::skip;
+use crate::words::word;
 
 // Whether the word is this one letter, in upper or lower case.
 fn is_letter(word: &[u8], upper: u8, lower: u8) -> bool

@@ -1,8 +1,8 @@
 // A word as a number.
-use crate::Number;
 ghost use mathlib.Core.Path.{_≡_};
 ghost use Prim.Native.Nat.{_≤_};
 ghost use Rattle.lines.specs.Digits.{digitOf, numberOf};
+use crate::Number;
 
 // The largest number of 32 bits.
 const LARGEST: u64 = 4294967295;

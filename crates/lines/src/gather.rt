@@ -1,9 +1,9 @@
 // A line gathered byte by byte.
-use crate::Call;
-use crate::calls::call_of;
 ghost use mathlib.Core.Path.{_≡_};
 ghost use lib.ListN.{length, set};
 ghost use Rattle.lines.specs.Gathered.{countAfter, callIn};
+use crate::Call;
+use crate::calls::call_of;
 
 // Puts one more byte of the line after the `count` bytes in the buffer, and answers the new count; a byte that does not
 // fit is dropped, and the line counts as too long from then on.

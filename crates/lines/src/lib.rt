@@ -1,11 +1,7 @@
-// The bench program's lines: what a line asks for, what comes of it, and how that is written.
-use coprocessor::Coprocessor;
-
-pub mod answers;
+// The bench program's lines: what a line asks for.
 pub mod calls;
 mod digits;
 pub mod gather;
-pub mod texts;
 mod words;
 
 // What a line asks for.
@@ -22,22 +18,8 @@ pub enum Call {
     Neither,
 }
 
-// What comes of a call.
-pub enum Answer {
-    Done { positions: u32 },
-    Refused { number: u32 },
-    Nothing,
-    Neither,
-}
-
-// A call's answer, and the record after it.
-pub struct Told {
-    pub answer: Answer,
-    pub coprocessor: Coprocessor,
-}
-
 // What a word is as a number.
-pub enum Number {
+pub(crate) enum Number {
     Is(u32),
     Not,
 }

@@ -12,7 +12,7 @@ use Rattle.numbers.specs.declared.bytes.Write.{Write}
 unfoldable pub touched : ℕ → ℕ → Write → Bool
 touched n at w = ltb (w .offset) (at + n) && ltb at (w .offset + w .length)
 
--- 01, Registers: a register of n bytes takes the bytes that the write covers; one that it does not touch stays
+-- 01, Registers: a register of n bytes takes the bytes that the write covers; docs/DECISIONS.md, 27: one that it does not touch stays
 unfoldable pub taken : ℕ → ℕ → Write → ℕ → ℕ
 taken n at w stored = choose (touched n at w) (latched n at w stored) stored
 

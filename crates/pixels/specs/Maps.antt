@@ -2,7 +2,7 @@
 use Prim.Native.Nat.{ℕ, _+_, _*_, _/_, _%_, _^_}
 use Rattle.pixels.specs.declared.Map.{Map}
 
--- 01, Maps and pointers: formats 0 to 3 mean 1, 2, 4, 8 bits
+-- 01, Maps and pointers: formats 0 to 3 mean 1, 2, 4, 8 bits; docs/DECISIONS.md, 19: by the two low bits
 unfoldable pub bitsOf : ℕ → ℕ
 bitsOf format = 2 ^ (format % 4)
 

@@ -7,7 +7,7 @@ use Rattle.pixels.specs.declared.Map.{Map}
 use Rattle.pixels.specs.declared.Found.{Found}
 use Rattle.pixels.specs.Maps.{bitsOf, placeOf, shiftOf}
 
--- the byte in which pixel (x, y) lies, 0 beyond the memory
+-- docs/DECISIONS.md, 20: the byte in which pixel (x, y) lies, 0 beyond the memory
 unfoldable pub byteAt : List ℕ → Map → ℕ → ℕ → ℕ
 byteAt memory map x y = getD memory (placeOf map x y) 0
 
@@ -20,7 +20,7 @@ foundAt memory map x y =
 unfoldable pub pixelAt : List ℕ → Map → ℕ → ℕ → ℕ
 pixelAt memory map x y = field (shiftOf map x y) (bitsOf (map .format)) (byteAt memory map x y)
 
--- memory with the low bits of v for pixel (x, y), and as it was where that lies beyond the memory
+-- docs/DECISIONS.md, 20: memory with the low bits of v for pixel (x, y), and as it was where that lies beyond the memory
 unfoldable pub withPixel : List ℕ → Map → ℕ → ℕ → ℕ → List ℕ
 withPixel memory map x y v =
     set memory (placeOf map x y) (withField (shiftOf map x y) (bitsOf (map .format)) v (byteAt memory map x y))

@@ -13,7 +13,7 @@ use Rattle.position.specs.Places.{columnOf, onMap, maskX, maskY, inMask}
 unfoldable pub pixelBeyond : ℕ → Map → ℕ → ℕ → Bool
 pixelBeyond length map x y = leb length (placeOf map x y)
 
--- 01, refusal 11: a pixel of a used map, the mask's and the destination's only inside the map and the mask boundary
+-- 01, refusal 11; docs/DECISIONS.md, 6: a pixel of a used map, the mask's and the destination's only inside the map and the mask boundary
 unfoldable pub isBeyond : Setup → ℕ → Pen → Bool
 isBeyond s length pen =
     (s .flow .pattern && pixelBeyond length (s .pattern) (pen .pattern .x) (pen .pattern .y))

@@ -9,7 +9,7 @@ use Rattle.rules.specs.Starts.{codeAt}
 use Rattle.moves.specs.declared.Setup.{Setup}
 use Rattle.moves.specs.declared.Pen.{Pen}
 
--- from 0 to the last column or row; edges are inside
+-- 01, One position: from 0 to the last column or row; edges are inside
 unfoldable pub isWithin : ℕ → ℤ → Bool
 isWithin last (pos n) = leb n last
 isWithin last (negsuc n) = false
@@ -23,7 +23,7 @@ columnOf (negsuc n) = 0
 unfoldable pub onMap : Setup → Pen → Bool
 onMap s pen = isWithin (s .destination .width) (pen .destination .x) && isWithin (s .destination .height) (pen .destination .y)
 
--- docs/DECISIONS.md: the mask pixel is (destination - origin)
+-- docs/DECISIONS.md, 14: the mask pixel is (destination - origin)
 unfoldable pub maskX : Setup → Pen → ℤ
 maskX s pen = pen .destination .x -ℤ pos (s .origin .x)
 

@@ -8,15 +8,15 @@ use Rattle.pixels.specs.declared.Map.{Map}
 use Rattle.pixels.specs.Maps.{bitsOf, neededOf}
 use Rattle.parts.specs.declared.shapes.Point.{Point}
 
--- a map of one pixel at the memory's start, as a fresh state has it
+-- 01, Registers: a fresh state's map, one pixel at the memory's start
 abbrev pub freshMap : Map
 freshMap = record { base = 0; width = 0; height = 0; format = 0 }
 
--- 01, What the board draws: 0 M, 1 A, 2 B, 3 C
+-- 01, Registers: 0 M, 1 A, 2 B, 3 C; docs/DECISIONS.md, 7: by the two low bits
 unfoldable pub mapAt : List Map → ℕ → Map
 mapAt maps field = getD maps (field % 4) freshMap
 
--- 01, refusal 7: the pixel code is 0 to 3 and the order bit is clear
+-- 01, refusal 7: the pixel code is 0 to 3 and the order bit is clear; docs/DECISIONS.md, 7: by these fields alone
 unfoldable pub formatHolds : Map → Bool
 formatHolds map = ltb (map .format % 16) 4
 

@@ -67,7 +67,7 @@ sourceIsColour operations = eqb (foregroundSource operations) 2 || eqb (backgrou
 unfoldable pub usesSource : ℕ → Bool
 usesSource operations = sourceIsColour operations || eqb (patternField operations) 9
 
--- 01, One position: the pattern map is used if its code is 1 to 3
+-- docs/DECISIONS.md, 3: the pattern map is used if its code is 1 to 3
 unfoldable pub usesPattern : ℕ → Bool
 usesPattern operations = isMap (patternField operations)
 

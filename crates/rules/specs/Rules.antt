@@ -34,7 +34,7 @@ fieldsHold operations =
 unfoldable pub mixesHold : ℕ → ℕ → Bool
 mixesHold foreground background = leb foreground 0x15 && leb background 0x15
 
--- what holds of every map that is used: the destination always, source, pattern and mask where they are used
+-- docs/DECISIONS.md, 3: what holds of every map that is used: the destination always, source, pattern and mask where they are used
 unfoldable pub usedMaps : (Map → Bool) → ℕ → List Map → Bool
 usedMaps holds operations maps =
     holds (mapAt maps (destinationField operations))

@@ -32,14 +32,14 @@ positioned s t =
 unfoldable pub ended : Run → Run
 ended t = record { pen = penWith (Nothing false) (t .pen); memory = t .memory; done = t .done; beyond = true }
 
--- one position, if one is left
+-- 01, The functions: one position, if one is left
 unfoldable pub stepped : Setup → Run → Run
 stepped s t =
     choose (unfinished (t .pen .drawing))
     (choose (isBeyond s (length (t .memory)) (t .pen)) (ended t) (positioned s t))
     t
 
--- n positions, or as many as there are
+-- 01, The functions: an allowance of n positions, or as many as there are
 unfoldable pub after : Setup → ℕ → Run → Run
 after s zero t = t
 after s (suc n) t = stepped s (after s n t)

@@ -90,7 +90,7 @@ goes-on c memory events held valid long none =
       ended = rw whole (idle-at c memory n accepted within);
     }
 
--- 01, point 3, from the write that starts it: the total is fixed by the dimensions or the codes that the write leaves
+-- 01, How tight the promises are, point 3, from the write that starts it: the total is fixed by the dimensions or the codes that the write leaves
 pub drawing-goes-on : (w : Write) (c : Coprocessor) (memory : List ℕ) (events : List Event) → Held c
     → isAccepted (writeRefusal w c) ≡ true → startsBy w (merged w c) ≡ true → length memory ≡ writeAnswer w c .coprocessor .size
     → lived events (standing (writeAnswer w c .coprocessor) memory) .accepted ≡ true

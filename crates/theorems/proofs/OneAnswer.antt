@@ -25,12 +25,12 @@ use Rattle.board.proofs.xga_run as xga-run
 use Rattle.board.proofs.xga_load as xga-load
 use Rattle.entry.proofs.write_in as write-in
 use Rattle.entry.proofs.write_own as write-own
-use Rattle.lines.proofs.answers.obey as obey
+use Rattle.answers.proofs.obey as obey
 use Rattle.lines.proofs.calls.call_of as call-of
 use Rattle.lines.proofs.gather.gather as gather
 use Rattle.lines.proofs.gather.call_in as call-in
-use Rattle.lines.proofs.texts.answer_text as answer-text
-use Rattle.lines.proofs.texts.memory_text as memory-text
+use Rattle.texts.proofs.answer_text as answer-text
+use Rattle.texts.proofs.memory_text as memory-text
 use Rattle.theorems.specs.One.{One}
 
 module _ {M : Type 1} (𝓤 : URA M) where

@@ -11,7 +11,7 @@ use Rattle.coprocessor.specs.declared.Coprocessor.{Coprocessor}
 use Rattle.coprocessor.specs.Runs.{runAnswer, runMemory}
 use Rattle.coprocessor.specs.Images.{saveRefusal, saved, loadAnswer}
 
--- 01, A run takes an allowance; 01, State image: the state saved into a buffer of 115 bytes, and that loaded into another coprocessor, whatever it held
+-- 01, The functions: a run takes an allowance; 01, State image: the state saved into a buffer of 115 bytes, and that loaded into another coprocessor, whatever it held
 pub data Event : Type 0 where
   run : ℕ → Event
   movedTo : (other : Coprocessor) (buffer : List ℕ) → length buffer ≡ 115 → Event

@@ -2,8 +2,8 @@
 use mathlib.Core.Path.{ap, _∙_}
 use borrow.Author.Needs.{needs}
 use Rattle.lines.specs.declared.Call.{Call}
-use Rattle.lines.specs.declared.Told.{Told}
-use Rattle.lines.specs.Answers.{toldOf, memoryAfter}
+use Rattle.answers.specs.declared.Told.{Told}
+use Rattle.answers.specs.Answers.{toldOf, memoryAfter}
 use Rattle.bench.specs.Session.{sessionOf, lineEnded}
 use Rattle.bench.proofs.end_line.Statement.{statement}
 use Rattle.bench.proofs.end_line.Tie as tie

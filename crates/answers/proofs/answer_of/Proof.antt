@@ -1,0 +1,22 @@
+-- `answer_of` is the definition on both sides of its test.
+use borrow.Author.Needs.{needs}
+use Rattle.answers.specs.Answers.{answerOf}
+use Rattle.answers.proofs.answer_of.Statement.{statement}
+use Rattle.answers.proofs.answer_of.Tie as tie
+
+accepts-requires : tie.Need-accepts-requires
+accepts-requires c κs = search needs
+
+number-requires : tie.Need-number-requires
+number-requires c κs = search needs
+
+returns : tie.Need-returns
+unfolding answerOf
+returns c = rw (← c .before .accepts .ensures, c .if1 .taken)
+
+returns-2 : tie.Need-returns-2
+unfolding answerOf
+returns-2 c = rw (← c .before .before .accepts .ensures, c .before .if1 .left, c .number .ensures)
+
+pub answer-of-spec : {M : Type 1} → statement M
+answer-of-spec = tie.close (tie.spec accepts-requires number-requires returns returns-2)

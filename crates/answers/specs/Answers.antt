@@ -1,0 +1,46 @@
+-- What comes of a call, by what the coprocessor's calls promise.
+use mathlib.Core.List.{List}
+use Prim.Native.Nat.{ℕ}
+use Rattle.numbers.specs.Choose.{choose}
+use Rattle.parts.specs.declared.refusals.Refusal.{Refusal}
+use Rattle.parts.specs.Refusals.{isAccepted, numberOf}
+use Rattle.coprocessor.specs.declared.Coprocessor.{Coprocessor}
+use Rattle.coprocessor.specs.Writes.{writeAnswer}
+use Rattle.coprocessor.specs.Runs.{runAnswer, runMemory}
+use Rattle.lines.specs.declared.Call.{Call}
+use Rattle.lines.specs.declared.Call.the-variants.{Write, Run, Blank, Neither}
+use Rattle.texts.specs.declared.Answer.{Answer}
+use Rattle.texts.specs.declared.Answer.the-variants.{Done, Refused, Nothing, Neither as Unread}
+use Rattle.answers.specs.declared.Told.{Told}
+
+-- 01, the bench program: the positions done, or the refusal
+unfoldable pub answerOf : Refusal → ℕ → Answer
+answerOf refusal positions = choose (isAccepted refusal) (Done positions) (Refused (numberOf refusal))
+
+-- 01, the bench program: 0 positions for writes
+unfoldable pub writeTold : ℕ → ℕ → ℕ → Coprocessor → Told
+writeTold offset length value c =
+    record {
+      answer = answerOf (writeAnswer (record { offset = offset; length = length; value = value }) c .refusal) 0;
+      coprocessor = writeAnswer (record { offset = offset; length = length; value = value }) c .coprocessor;
+    }
+
+unfoldable pub runTold : ℕ → Coprocessor → List ℕ → Told
+runTold allowance c memory =
+    record {
+      answer = answerOf (runAnswer c memory allowance .refusal) (runAnswer c memory allowance .done);
+      coprocessor = runAnswer c memory allowance .coprocessor;
+    }
+
+-- docs/DECISIONS.md, 44: a blank line prints nothing, and a line that is neither says so; both change nothing
+unfoldable pub toldOf : Call → Coprocessor → List ℕ → Told
+toldOf (Write offset length value) c memory = writeTold offset length value c
+toldOf (Run allowance) c memory = runTold allowance c memory
+toldOf Blank c memory = record { answer = Nothing; coprocessor = c }
+toldOf Neither c memory = record { answer = Unread; coprocessor = c }
+
+unfoldable pub memoryAfter : Call → Coprocessor → List ℕ → List ℕ
+memoryAfter (Write offset length value) c memory = memory
+memoryAfter (Run allowance) c memory = runMemory c memory allowance
+memoryAfter Blank c memory = memory
+memoryAfter Neither c memory = memory
