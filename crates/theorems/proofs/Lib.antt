@@ -18,3 +18,4 @@ pub mod HeldRuns
 pub mod CutLaws
 pub mod GoingOn
 pub mod OneAnswer
+pub mod Lively

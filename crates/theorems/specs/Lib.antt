@@ -3,3 +3,4 @@ pub mod Totals
 pub mod ReadBack
 pub mod Cuts
 pub mod One
+pub mod Lively
