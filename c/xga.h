@@ -2,8 +2,8 @@
 
    An image is XGA_IMAGE_BYTES bytes, and the memory as many bytes as the state was made for. Each is passed as a
    pointer, which is not NULL, and its length; the two lie apart. No call keeps a pointer or allocates.
-   A call answers 0 or the number of its refusal. An image of another length or that does not load is refused with 10
-   before anything else is asked; otherwise the lowest number that applies is given. */
+   A call answers 0 or the number of its refusal. Where an image has another length or does not load, there is no state of
+   which anything else could be asked, and it is refused with 10; otherwise the lowest number that applies is given. */
 #ifndef XGA_H
 #define XGA_H
 
@@ -18,8 +18,8 @@ extern "C" {
 #endif
 
 /* Makes the image that of a fresh state, all registers zero, for a memory of size bytes.
-   Refused: 9, size not 1 to 1048576, and the image is that of a fresh state of size 1;
-   10, image_length not XGA_IMAGE_BYTES, and the bytes stay. */
+   Refused: 9, size not 1 to 1048576, and the image is that of a fresh state of size 1; otherwise
+   10, image_length not XGA_IMAGE_BYTES. Bytes of another length stay as they are. */
 uint32_t xga_fresh(uint8_t *image, size_t image_length, uint32_t size);
 
 /* Writes the low length bytes of value to the registers at offset, low byte first; a write that covers 7F hex, or 2F

@@ -120,7 +120,8 @@ impl Pair {
     }
 }
 
-/// That an image which does not load is refused with 10 by every call, before any other number, and stays.
+/// That an image which does not load is refused with 10 by every call, before any other number but a fresh state's 9, and
+/// stays.
 fn refused_by_every_call(image: &[u8], memories: &mut Memories) -> Result<(), String> {
     let refusal = Refusal::Image.number();
     let mut lent = Guarded::of(image);
@@ -129,14 +130,18 @@ fn refused_by_every_call(image: &[u8], memories: &mut Memories) -> Result<(), St
     let read = board::read(lent.bytes_mut(), 0x50, 4);
     let run = board::run(lent.bytes_mut(), memories.proved.bytes_mut(), 9);
     let fresh = match image.len() {
-        IMAGE => refusal,
-        _ => board::fresh(lent.bytes_mut(), 64),
+        IMAGE => (refusal, Refusal::Size.number()),
+        _ => (
+            board::fresh(lent.bytes_mut(), 64),
+            board::fresh(lent.bytes_mut(), 0),
+        ),
     };
-    let answers = [written, misplaced, read.0, run.0, fresh];
+    let answers = [written, misplaced, read.0, run.0, fresh.0];
+    let is_size_first = fresh.1 == Refusal::Size.number();
     let is_kept = lent.bytes() == image && lent.are_guards_kept();
-    if answers != [refusal; 5] || read.1 != 0 || run.1 != 0 || !is_kept {
+    if answers != [refusal; 5] || !is_size_first || read.1 != 0 || run.1 != 0 || !is_kept {
         return Err(format!(
-            "a refused image: write {written}, misplaced write {misplaced}, read {read:?}, run {run:?}, fresh {fresh}, image kept: {is_kept}"
+            "a refused image: write {written}, misplaced write {misplaced}, read {read:?}, run {run:?}, fresh {fresh:?}, image kept: {is_kept}"
         ));
     }
     memories.agree()

@@ -167,7 +167,7 @@ mod tests {
 
     #[test]
     fn refusal_11_leaves_what_earlier_positions_did_and_makes_the_drawing_idle() {
-        let (mut coprocessor, _) = Coprocessor::fresh(8);
+        let (mut started, _) = Coprocessor::fresh(8);
         let writes = [
             (0x12, 1, 1),
             (0x18, 2, 7),
@@ -180,14 +180,17 @@ mod tests {
             (0x7C, 4, 0x0801_8000),
         ];
         for (offset, length, value) in writes {
-            assert_eq!(coprocessor.write(offset, length, value), NONE);
+            assert_eq!(started.write(offset, length, value), NONE);
         }
-        // A run refuses such a memory with 9, so only the loop inside it can be lent one.
-        let mut memory = [0; 3];
-        assert_eq!(coprocessor.draw(&mut memory, 9), (11, 3));
-        assert_eq!(memory, [0xAA; 3]);
-        assert_eq!(coprocessor.drawing, Drawing::Nothing { stopped: false });
-        assert_eq!(coprocessor.registers.destination_x, 3);
-        assert!(coprocessor.is_valid());
+        for draw in [Coprocessor::draw, crate::fast::draw] {
+            // A run refuses such a memory with 9, so only the loop inside it can be lent one.
+            let mut memory = [0; 3];
+            let mut coprocessor = started.clone();
+            assert_eq!(draw(&mut coprocessor, &mut memory, 9), (11, 3));
+            assert_eq!(memory, [0xAA; 3]);
+            assert_eq!(coprocessor.drawing, Drawing::Nothing { stopped: false });
+            assert_eq!(coprocessor.registers.destination_x, 3);
+            assert!(coprocessor.is_valid());
+        }
     }
 }

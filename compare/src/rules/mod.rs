@@ -70,6 +70,21 @@ fn frame() -> Vec<Rule> {
     ]
 }
 
+/// A rule that was not broken yet.
+fn rule(
+    name: String,
+    fits: impl Fn(&Coprocessor) -> bool + 'static,
+    breaks: impl Fn(&mut Random, &Coprocessor) -> Vec<u8> + 'static,
+) -> Rule {
+    Rule {
+        group: "",
+        name,
+        times: 0,
+        fits: Box::new(fits),
+        breaks: Box::new(breaks),
+    }
+}
+
 /// A rule that is broken in the record.
 fn of_record(
     name: impl Into<String>,
@@ -81,13 +96,7 @@ fn of_record(
         breaks(random, &mut broken);
         image::of(&broken).to_vec()
     };
-    Rule {
-        group: "",
-        name: name.into(),
-        times: 0,
-        fits: Box::new(fits),
-        breaks: Box::new(breaks),
-    }
+    rule(name.into(), fits, breaks)
 }
 
 /// A rule that is broken in the bytes of the image.
@@ -101,13 +110,7 @@ fn of_bytes(
         breaks(random, &mut bytes);
         bytes
     };
-    Rule {
-        group: "",
-        name: name.into(),
-        times: 0,
-        fits: Box::new(fits),
-        breaks: Box::new(breaks),
-    }
+    rule(name.into(), fits, breaks)
 }
 
 fn any(_: &Coprocessor) -> bool {

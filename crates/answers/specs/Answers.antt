@@ -25,6 +25,7 @@ writeTold offset length value c =
       coprocessor = writeAnswer (record { offset = offset; length = length; value = value }) c .coprocessor;
     }
 
+-- 01, the bench program: the positions that a run did
 unfoldable pub runTold : ℕ → Coprocessor → List ℕ → Told
 runTold allowance c memory =
     record {
@@ -39,6 +40,7 @@ toldOf (Run allowance) c memory = runTold allowance c memory
 toldOf Blank c memory = record { answer = Nothing; coprocessor = c }
 toldOf Neither c memory = record { answer = Unread; coprocessor = c }
 
+-- 01, the bench program: the memory after the call; only a run changes it
 unfoldable pub memoryAfter : Call → Coprocessor → List ℕ → List ℕ
 memoryAfter (Write offset length value) c memory = memory
 memoryAfter (Run allowance) c memory = runMemory c memory allowance

@@ -1,1 +1,3 @@
 pub mod SessionLaws
+pub mod PrintedLaws
+pub mod Sample

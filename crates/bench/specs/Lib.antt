@@ -1,1 +1,3 @@
-pub mod Session
+pub mod Printed
+pub mod Sample
+pub mod Inner

@@ -1,6 +1,7 @@
 // The bench: reads calls line by line from standard input, does them over 64 zero bytes, answers each, and shows the memory.
 ghost use mathlib.Core.Path.{_≡_};
-ghost use Rattle.bench.specs.Session.{sessionOf, lineAfter, lineEnded, byteTaken, bytesTaken};
+ghost use Rattle.bench.specs.Printed.{lineAfter};
+ghost use Rattle.bench.specs.Inner.{sessionOf, lineEnded, byteTaken, bytesTaken};
 use answers::obey;
 use coprocessor::Coprocessor;
 use libc::STDIN_FILENO;

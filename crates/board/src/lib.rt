@@ -29,19 +29,19 @@ fn unpack(image: &[u8]) -> Written
 }
 
 // Makes the image that of a fresh state over a memory of this size: 0; 9 for a size outside the limit, with the image of a
-// fresh state of size 1; or 10 for a buffer not of 115 bytes, which stays as it is.
+// fresh state of size 1; or 10 for a buffer not of 115 bytes. Such a buffer always stays as it is.
 #[no_mangle]
 pub extern "C" fn xga_fresh(image: &mut [u8], size: u32) -> u32
     ensures { λ r. ⌜ (r ≡ freshNumber (now (image .entry)) size) × (now (image .exit) ≡ freshImage (now (image .entry)) size) ⌝ }
 {
     let made = Coprocessor::fresh(size);
     let fresh = made.coprocessor;
-    let refusal = fresh.save(image);
+    let kept = fresh.save(image);
+    let refusal = made.refusal;
     if accepts(refusal) {
-        let first = made.refusal;
-        number(first)
+        number(kept)
     } else {
-        NO_IMAGE
+        number(refusal)
     }
 }
 

@@ -1,6 +1,5 @@
 -- Each play tells the right answer from a mistake, and the promises give the right one: each is computed from them.
-use mathlib.Core.Path.{_≡_, refl}
-use mathlib.Core.Bool.{true}
+use mathlib.Core.Path.{refl}
 use Rattle.numbers.specs.Bytes.{le, numberOf, byteOf, partOf, covers, latchedBytes, latched}
 use Rattle.numbers.specs.Circles.{forth, back, residue, circle}
 use Rattle.numbers.specs.Fields.{field, withField}
@@ -26,20 +25,20 @@ use Rattle.position.specs.Drawn.{sourcePixel, isForeground, inkOf, picked, mixe
 use Rattle.position.specs.Fates.{destinationPixel, onZero, isCompared, fateOf}
 use Rattle.position.specs.Places.{isWithin, columnOf, onMap, maskX, maskY, inMask, isMove, isFirst, isLast, isNulled}
 use Rattle.runs.specs.Runs.{begun, positioned, stepped, after}
-use Rattle.image.specs.Counters.{countersOf, drawingOf, sameCounters}
+use Rattle.image.specs.Counters.{countersOf, drawingOf}
 use Rattle.image.specs.Fields.{laid, counterFields, headFields, mapFields, mapsFields, wordFields, bankFields, fieldsBy}
 use Rattle.image.specs.Places.{at, mapFrom, inkFrom, pointFrom, spotFrom, mapsFrom, termsFrom, compareFrom, countersFrom}
 use Rattle.image.specs.Words.{pointWord, spotWord, sizeWord, inksWord, mapWords, termWords, colourWords, pointerWords, bankOf}
-use Rattle.coprocessor.specs.Images.{fieldsOf, imageOf, loaded, loads, saves, saveRefusal, saved, loadAnswer}
+use Rattle.coprocessor.specs.Images.{fieldsOf, imageOf, loaded, zeroCounters, remains, loads, saves, saveRefusal, saved, loadAnswer}
 use Rattle.coprocessor.specs.Reads.{wordsOf, valueAt, readRefusal, readAnswer}
 use Rattle.coprocessor.specs.Fresh.{sizeHolds, freshOf, freshAnswer}
 use Rattle.coprocessor.specs.Runs.{setupOf, penOf, withPen, ranOf, runRefusal, runAnswer, runMemory}
 use Rattle.coprocessor.specs.Valid.{startRefusalOf, mapsReduced, pointersReduced, reducedOf, goesOn, validOf}
-use Rattle.coprocessor.specs.Writes.{merged as stored, startsBy, started, startedRefusal, storeRefusal, writeRefusal, settledBy, writeAnswer}
-use Rattle.cases.specs.Calls.{same, zeros, written, answers, played, allPlayed}
+use Rattle.coprocessor.specs.Writes.{stored, startsBy, started, startedRefusal, writeRefusal, settledBy, writeAnswer}
+use Rattle.cases.specs.Calls.{same, zeros, written, answers, played, Played}
 use Rattle.cases.specs.Cases.{mapped, inked, rows, codes}
 use Rattle.cases.specs.Mistakes.{stillCode, row, earlierCodes, notTiled, eachCodeNulled, sourceForth, patternAlong, destinationInverted, rowReturned, errorReduced, onePosition, lowestNumber, unlistedByte, codeZero, boundaryMode, firstCodeStops, pointersTurned, sizes, noImage, cutLine, mistakes}
 
-pub avoided : allPlayed mistakes ≡ true
-unfolding numberOf byteOf partOf covers latchedBytes latched forth back residue circle field withField bitsOf startOf placeOf shiftOf neededOf byteAt pixelAt withPixel holdsOf conditionHolds tableBit logical gathered scattered worked arithmetic merged mixed touched taken takenLow takenTerm takenDestination mapReduced termReduced termsReduced compareReduced pointReduced destinationReduced spotReduced registers among listed placed mapTaken termsTaken inkTaken compareTaken pointTaken spotTaken noneStopped countersHold pointersHold mapAt formatHolds endHolds isInside isMap isLine isCodes isBlock draws sourceIsColour usesSource usesPattern usesMask isSource isPattern fieldsHold mixesHold usedMaps formatsHold endsHold startRefusal turned sourceStarted patternStarted codeAt drawingStarted signOf courseOf flowOf sourceBy destinationBy penStepped penWith penGone lineError lineMoved codePassed codesMoved columnPassed rowPoint rowSpot rowPassed blockMoved movedBy moved lineStep codeStep opposite turnedBy circledBy pointStepped spotStepped pixelBeyond isBeyond sourcePixel isForeground inkOf picked mixedPixel drawnBy drawn destinationPixel onZero isCompared fateOf isWithin columnOf onMap maskX maskY inMask isMove isFirst isLast isNulled begun positioned stepped after sizeHolds freshOf freshAnswer setupOf penOf withPen ranOf runRefusal runAnswer runMemory startRefusalOf mapsReduced pointersReduced reducedOf goesOn validOf stored startsBy started startedRefusal storeRefusal writeRefusal settledBy writeAnswer same zeros written answers played allPlayed mapped inked rows codes stillCode row earlierCodes notTiled eachCodeNulled sourceForth patternAlong destinationInverted rowReturned errorReduced onePosition lowestNumber unlistedByte codeZero boundaryMode firstCodeStops pointersTurned sizes noImage cutLine mistakes isOneBit countersOf drawingOf sameCounters laid counterFields headFields mapFields mapsFields wordFields bankFields fieldsBy at mapFrom inkFrom pointFrom spotFrom mapsFrom termsFrom compareFrom countersFrom pointWord spotWord sizeWord inksWord mapWords termWords colourWords pointerWords bankOf fieldsOf imageOf loaded loads saves saveRefusal saved loadAnswer wordsOf valueAt readRefusal readAnswer le
-avoided = refl
+pub avoided : Played mistakes
+unfolding numberOf byteOf partOf covers latchedBytes latched forth back residue circle field withField bitsOf startOf placeOf shiftOf neededOf byteAt pixelAt withPixel holdsOf conditionHolds tableBit logical gathered scattered worked arithmetic merged mixed touched taken takenLow takenTerm takenDestination mapReduced termReduced termsReduced compareReduced pointReduced destinationReduced spotReduced registers among listed placed mapTaken termsTaken inkTaken compareTaken pointTaken spotTaken noneStopped countersHold pointersHold mapAt formatHolds endHolds isInside isMap isLine isCodes isBlock draws sourceIsColour usesSource usesPattern usesMask isSource isPattern fieldsHold mixesHold usedMaps formatsHold endsHold startRefusal turned sourceStarted patternStarted codeAt drawingStarted signOf courseOf flowOf sourceBy destinationBy penStepped penWith penGone lineError lineMoved codePassed codesMoved columnPassed rowPoint rowSpot rowPassed blockMoved movedBy moved lineStep codeStep opposite turnedBy circledBy pointStepped spotStepped pixelBeyond isBeyond sourcePixel isForeground inkOf picked mixedPixel drawnBy drawn destinationPixel onZero isCompared fateOf isWithin columnOf onMap maskX maskY inMask isMove isFirst isLast isNulled begun positioned stepped after sizeHolds freshOf freshAnswer setupOf penOf withPen ranOf runRefusal runAnswer runMemory startRefusalOf mapsReduced pointersReduced reducedOf goesOn validOf stored startsBy started startedRefusal writeRefusal settledBy writeAnswer same zeros written answers played Played mapped inked rows codes stillCode row earlierCodes notTiled eachCodeNulled sourceForth patternAlong destinationInverted rowReturned errorReduced onePosition lowestNumber unlistedByte codeZero boundaryMode firstCodeStops pointersTurned sizes noImage cutLine mistakes isOneBit countersOf drawingOf laid counterFields headFields mapFields mapsFields wordFields bankFields fieldsBy at mapFrom inkFrom pointFrom spotFrom mapsFrom termsFrom compareFrom countersFrom pointWord spotWord sizeWord inksWord mapWords termWords colourWords pointerWords bankOf fieldsOf imageOf loaded zeroCounters remains loads saves saveRefusal saved loadAnswer wordsOf valueAt readRefusal readAnswer le
+avoided = (refl, (refl, (refl, (refl, (refl, (refl, (refl, (refl, (refl, (refl, (refl, (refl, (refl, (refl, (refl, (refl, (refl, (refl, (refl, tt)))))))))))))))))))

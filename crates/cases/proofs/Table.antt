@@ -1,6 +1,5 @@
 -- The table of worked cases holds: each call is computed from what it promises.
-use mathlib.Core.Path.{_≡_, refl}
-use mathlib.Core.Bool.{true}
+use mathlib.Core.Path.{refl}
 use Rattle.numbers.specs.Bytes.{numberOf, byteOf, partOf, covers, latchedBytes, latched}
 use Rattle.numbers.specs.Circles.{forth, back, residue, circle}
 use Rattle.numbers.specs.Fields.{field, withField}
@@ -32,10 +31,10 @@ use Rattle.coprocessor.specs.Reads.{wordsOf, valueAt, readRefusal, readAnswer}
 use Rattle.coprocessor.specs.Fresh.{sizeHolds, freshOf, freshAnswer}
 use Rattle.coprocessor.specs.Runs.{setupOf, penOf, withPen, ranOf, runRefusal, runAnswer, runMemory}
 use Rattle.coprocessor.specs.Valid.{startRefusalOf, mapsReduced, pointersReduced, reducedOf, goesOn, validOf}
-use Rattle.coprocessor.specs.Writes.{merged as stored, startsBy, started, startedRefusal, storeRefusal, writeRefusal, settledBy, writeAnswer}
-use Rattle.cases.specs.Calls.{same, zeros, written, answers, played, allPlayed, holdFrom}
+use Rattle.coprocessor.specs.Writes.{stored, startsBy, started, startedRefusal, writeRefusal, settledBy, writeAnswer}
+use Rattle.cases.specs.Calls.{same, zeros, written, answers, played, Played, HoldFrom}
 use Rattle.cases.specs.Cases.{mapped, inked, mixes, dot, rows, codes, based, case1, case2, case3, case4, case5, case6, case7, case8, case9, case10, case11, case12, sample, cases}
 
-pub table : holdFrom 1 cases ≡ true
-unfolding numberOf byteOf partOf covers latchedBytes latched forth back residue circle field withField bitsOf startOf placeOf shiftOf neededOf byteAt pixelAt withPixel holdsOf conditionHolds tableBit logical gathered scattered worked arithmetic merged mixed touched taken takenLow takenTerm takenDestination mapReduced termReduced termsReduced compareReduced pointReduced destinationReduced spotReduced registers among listed placed mapTaken termsTaken inkTaken compareTaken pointTaken spotTaken noneStopped countersHold pointersHold mapAt formatHolds endHolds isInside isMap isLine isCodes isBlock draws sourceIsColour usesSource usesPattern usesMask isSource isPattern fieldsHold mixesHold usedMaps formatsHold endsHold startRefusal turned sourceStarted patternStarted codeAt drawingStarted signOf courseOf flowOf sourceBy destinationBy penStepped penWith penGone lineError lineMoved codePassed codesMoved movedBy moved lineStep codeStep turnedBy circledBy pointStepped spotStepped pixelBeyond isBeyond sourcePixel isForeground inkOf picked mixedPixel drawnBy drawn destinationPixel onZero isCompared fateOf isWithin columnOf onMap maskX maskY inMask isMove isFirst isLast isNulled begun positioned stepped after sizeHolds freshOf freshAnswer setupOf penOf withPen ranOf runRefusal runAnswer runMemory startRefusalOf mapsReduced pointersReduced reducedOf goesOn validOf stored startsBy started startedRefusal storeRefusal writeRefusal settledBy writeAnswer same written answers played allPlayed holdFrom zeros mapped inked mixes dot rows codes based case1 case2 case3 case4 case5 case6 case7 case8 case9 case10 case11 case12 sample cases countersOf pointWord spotWord sizeWord inksWord mapWords termWords colourWords pointerWords bankOf wordsOf valueAt readRefusal readAnswer
-table = refl
+pub table : HoldFrom 1 cases
+unfolding numberOf byteOf partOf covers latchedBytes latched forth back residue circle field withField bitsOf startOf placeOf shiftOf neededOf byteAt pixelAt withPixel holdsOf conditionHolds tableBit logical gathered scattered worked arithmetic merged mixed touched taken takenLow takenTerm takenDestination mapReduced termReduced termsReduced compareReduced pointReduced destinationReduced spotReduced registers among listed placed mapTaken termsTaken inkTaken compareTaken pointTaken spotTaken noneStopped countersHold pointersHold mapAt formatHolds endHolds isInside isMap isLine isCodes isBlock draws sourceIsColour usesSource usesPattern usesMask isSource isPattern fieldsHold mixesHold usedMaps formatsHold endsHold startRefusal turned sourceStarted patternStarted codeAt drawingStarted signOf courseOf flowOf sourceBy destinationBy penStepped penWith penGone lineError lineMoved codePassed codesMoved movedBy moved lineStep codeStep turnedBy circledBy pointStepped spotStepped pixelBeyond isBeyond sourcePixel isForeground inkOf picked mixedPixel drawnBy drawn destinationPixel onZero isCompared fateOf isWithin columnOf onMap maskX maskY inMask isMove isFirst isLast isNulled begun positioned stepped after sizeHolds freshOf freshAnswer setupOf penOf withPen ranOf runRefusal runAnswer runMemory startRefusalOf mapsReduced pointersReduced reducedOf goesOn validOf stored startsBy started startedRefusal writeRefusal settledBy writeAnswer same written answers played Played HoldFrom zeros mapped inked mixes dot rows codes based case1 case2 case3 case4 case5 case6 case7 case8 case9 case10 case11 case12 sample cases countersOf pointWord spotWord sizeWord inksWord mapWords termWords colourWords pointerWords bankOf wordsOf valueAt readRefusal readAnswer
+table = (refl, ((refl, (refl, (refl, tt))), (refl, ((refl, (refl, (refl, tt))), (refl, ((refl, tt), (refl, ((refl, tt), (refl, ((refl, (refl, tt)), (refl, ((refl, tt), (refl, ((refl, tt), (refl, ((refl, tt), (refl, ((refl, tt), (refl, ((refl, tt), (refl, ((refl, tt), (refl, ((refl, (refl, tt)), (refl, ((refl, tt), tt))))))))))))))))))))))))))

@@ -1,4 +1,5 @@
 -- A worked case: calls on a fresh coprocessor over lent memory, each with the answer that the paper gives.
+use mathlib.Core.Path.{_≡_}
 use Prim.Native.Nat.{ℕ, zero, suc}
 use mathlib.Core.Bool.{Bool, true, false, not, _&&_}
 use mathlib.Core.List.{List, [], _∷_}
@@ -14,7 +15,7 @@ use Rattle.coprocessor.specs.Runs.{runAnswer, runMemory}
 use Rattle.image.specs.Counters.{countersOf}
 use Rattle.coprocessor.specs.Images.{saveRefusal, saved, loadAnswer}
 
--- a call with its answer, or what is then seen
+-- 01, Cases: a call with its answer, or what is then seen
 pub data Call : Type 0 where
   -- an accepted write
   write : (offset length value : ℕ) → Call
@@ -36,12 +37,12 @@ pub data Call : Type 0 where
   fresh : (size number : ℕ) → Call
   -- these bytes are the memory
   memory : (bytes : List ℕ) → Call
-  -- these bytes are the memory no more
+  -- the memory is no longer these bytes
   changed : (bytes : List ℕ) → Call
   -- 01, State image: 9 state (0 idle, 1 drawing, 2 idle after stop)
   state : (number : ℕ) → Call
 
--- the memory at first, and the calls in turn
+-- 01, Cases: the memory at first, and the calls in turn
 pub record Play : Type 0 where
   pub bytes : List ℕ
   pub calls : List Call
@@ -108,11 +109,12 @@ played p =
     isAccepted (freshAnswer (length (p .bytes)) .refusal)
     && answers (p .calls) (freshAnswer (length (p .bytes)) .coprocessor) (p .bytes)
 
-unfoldable pub allPlayed : List Play → Bool
-allPlayed [] = true
-allPlayed (p ∷ ps) = played p && allPlayed ps
+-- each of these is played so
+unfoldable pub Played : List Play → Type 0
+Played [] = Unit {0}
+Played (p ∷ ps) = (played p ≡ true) × Played ps
 
--- whether every case holds; they are numbered from n on
-unfoldable pub holdFrom : ℕ → List Case → Bool
-holdFrom n [] = true
-holdFrom n (case ∷ cases) = eqb (case .number) n && allPlayed (case .plays) && holdFrom (suc n) cases
+-- every case holds; they are numbered from n on
+unfoldable pub HoldFrom : ℕ → List Case → Type 0
+HoldFrom n [] = Unit {0}
+HoldFrom n (case ∷ cases) = (case .number ≡ n) × (Played (case .plays) × HoldFrom (suc n) cases)

@@ -183,6 +183,7 @@ cutLine =
           ∷ []);
     }
 
+-- 01, Easy ways to draw it wrong, and others: all of them
 unfoldable pub mistakes : List Play
 mistakes =
     stillCode

@@ -6,8 +6,8 @@ use Prim.Native.Nat.{ℕ, _+_, _%_, _≤_}
 use native.Mathlib.Omega.{arith}
 use lib.Dec.{leb, eqb}
 use borrow.Author.Tests.{eqb-true, leb-true}
+use Rattle.numbers.proofs.Choices.{and-left, and-right}
 use Rattle.parts.specs.Registers.{placed}
-use Rattle.rules.proofs.Conjunctions.{and-l, and-r}
 
 pub or-cases : (a b : Bool) → (a || b) ≡ true → (a ≡ true) ⊎ (b ≡ true)
 or-cases true b e = inl refl
@@ -28,12 +28,12 @@ pub placed-known : (offset length : ℕ) → placed offset length ≡ true → P
 unfolding placed
 placed-known offset length e =
     let first : Bool = eqb length 1 || eqb length 2 || eqb length 4 in
-    let both = and-l (first && eqb (offset % length) 0) (leb offset 127) e in
-    let aligned : offset % length ≡ 0 = eqb-true (offset % length) 0 (and-r first (eqb (offset % length) 0) both) in
-    let low : offset ≤ 127 = leb-true offset 127 (and-r (first && eqb (offset % length) 0) (leb offset 127) e) in
+    let both = and-left (first && eqb (offset % length) 0) (leb offset 127) e in
+    let aligned : offset % length ≡ 0 = eqb-true (offset % length) 0 (and-right first (eqb (offset % length) 0) both) in
+    let low : offset ≤ 127 = leb-true offset 127 (and-right (first && eqb (offset % length) 0) (leb offset 127) e) in
     ⊎-elim (λ p. record { short = omega arith; low = low; within = omega arith })
     (⊎-elim (λ p. record { short = omega arith; low = low; within = two p aligned })
-    (λ p. record { short = omega arith; low = low; within = four p aligned })) (lengths length (and-l first (eqb (offset % length) 0) both))
+    (λ p. record { short = omega arith; low = low; within = four p aligned })) (lengths length (and-left first (eqb (offset % length) 0) both))
   where
     two : length ≡ 2 → offset % length ≡ 0 → offset % 4 + length ≤ 4
     two p q = let even : offset % 2 ≡ 0 = rw p at q in omega arith

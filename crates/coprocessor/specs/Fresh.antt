@@ -17,11 +17,11 @@ use Rattle.coprocessor.specs.declared.Written.{Written}
 unfoldable pub sizeHolds : ℕ → Bool
 sizeHolds size = leb 1 size && leb size 1048576
 
--- no mix and no colour
+-- 01, Registers: mix and colour of a fresh state
 abbrev pub noInk : Ink
 noInk = record { mix = 0; colour = 0 }
 
--- the first column and row
+-- 01, Registers: dimensions, origin and pointers of a fresh state
 abbrev pub noPoint : Point
 noPoint = record { x = 0; y = 0 }
 

@@ -1,18 +1,24 @@
 -- The state image: the record as 115 bytes, and the record that 115 bytes are.
-use Prim.Native.Nat.{ℕ}
-use mathlib.Core.Bool.{Bool, _&&_}
+use Prim.Native.Nat.{ℕ, suc, _%_}
+use mathlib.Core.Bool.{Bool, _&&_, _||_}
 use mathlib.Core.List.{List}
 use lib.ListN.{length}
-use lib.Dec.{eqb}
+use lib.Dec.{leb, ltb, eqb}
 use Rattle.numbers.specs.Choose.{choose}
 use Rattle.parts.specs.declared.refusals.Refusal.{Refusal}
 use Rattle.parts.specs.declared.refusals.Refusal.the-variants.{Accepted, Image}
-use Rattle.image.specs.Counters.{countersOf, drawingOf, sameCounters}
+use Rattle.parts.specs.declared.shapes.Point.{Point}
+use Rattle.parts.specs.Refusals.{isAccepted}
+use Rattle.rules.specs.Operations.{isLine, isCodes, isBlock}
+use Rattle.rules.specs.Starts.{codeAt}
+use Rattle.rules.specs.Going.{noneStopped, pointersHold}
+use Rattle.image.specs.Counters.{countersOf, drawingOf}
 use Rattle.image.specs.Fields.{Field, laid, fieldsBy}
 use Rattle.image.specs.Places.{at, inkFrom, pointFrom, spotFrom, mapsFrom, termsFrom, compareFrom, countersFrom}
 use Rattle.coprocessor.specs.declared.Coprocessor.{Coprocessor}
 use Rattle.coprocessor.specs.declared.Written.{Written}
-use Rattle.coprocessor.specs.Valid.{validOf}
+use Rattle.coprocessor.specs.Fresh.{sizeHolds}
+use Rattle.coprocessor.specs.Valid.{startRefusalOf, reducedOf, validOf}
 use Rattle.coprocessor.specs.Reads.{wordsOf}
 
 -- ---- the record as bytes
@@ -21,6 +27,7 @@ use Rattle.coprocessor.specs.Reads.{wordsOf}
 unfoldable pub fieldsOf : Coprocessor → List Field
 fieldsOf c = fieldsBy (countersOf (c .drawing)) (wordsOf c) (c .size) (c .index) (c .maps)
 
+-- 01, State image: the fields laid one after another, 115 bytes; byte by byte in theorems/specs/Bank.antt
 unfoldable pub imageOf : Coprocessor → List ℕ
 imageOf c = laid (fieldsOf c)
 
@@ -49,14 +56,38 @@ loaded b =
       drawing = drawingOf (at 111 4 b) (countersFrom b);
     }
 
--- 01, State image: accepted exactly when mark and version hold, the counters are those of the drawing that they make, and the record meets the image rules
+-- ---- which bytes load
+
+-- 01, State image: bytes 10-14 are zero
+unfoldable pub zeroCounters : List ℕ → Bool
+zeroCounters b = eqb (at 10 2 b) 0 && eqb (at 12 2 b) 0 && eqb (at 14 1 b) 0
+
+-- 01, State image: for a function that draws, a position remains at the counters, counters not of that function are zero (12 too for a line), codes number 1, 2 or 4, and none up to the current one is 00
+unfoldable pub remains : ℕ → Point → ℕ → List ℕ → Bool
+remains operations dimensions steps b =
+    choose (isLine operations)
+    (leb (at 10 2 b) (dimensions .x) && eqb (at 12 2 b) 0 && eqb (at 14 1 b) 0)
+    (choose (isCodes operations)
+    ((eqb (at 14 1 b) 1 || eqb (at 14 1 b) 2 || eqb (at 14 1 b) 4)
+    && ltb (at 12 2 b) (at 14 1 b)
+    && noneStopped steps (at 14 1 b) (suc (at 12 2 b))
+    && leb (at 10 2 b) (codeAt steps (at 14 1 b) (at 12 2 b) % 16))
+    (isBlock operations && leb (at 10 2 b) (dimensions .x) && leb (at 12 2 b) (dimensions .y) && eqb (at 14 1 b) 0))
+
+-- 01, State image: accepted exactly when mark and version hold, the size is within its limit, the state is 0, 1 or 2, and every reduction holds; in state 1 the start rules hold, a position remains, and used pointers lie in their maps; in the others bytes 10-14 are zero
 unfoldable pub loads : List ℕ → Bool
 loads b =
     eqb (length b) 115
     && eqb (at 0 3 b) 0x534758
     && eqb (at 3 2 b) 1
-    && sameCounters (countersFrom b) (countersOf (loaded b .drawing))
-    && validOf (loaded b)
+    && sizeHolds (at 5 4 b)
+    && leb (at 9 1 b) 2
+    && reducedOf (loaded b)
+    && choose (eqb (at 9 1 b) 1)
+    (isAccepted (startRefusalOf (loaded b))
+    && remains (loaded b .operations) (loaded b .dimensions) (loaded b .steps) b
+    && pointersHold (loaded b .operations) (loaded b .maps) (loaded b .source) (loaded b .pattern))
+    (zeroCounters b)
 
 -- ---- the answers
 
@@ -64,6 +95,7 @@ loads b =
 unfoldable pub saves : Coprocessor → List ℕ → Bool
 saves c b = eqb (length b) 115 && validOf c
 
+-- 01, refusal 10
 unfoldable pub saveRefusal : Coprocessor → List ℕ → Refusal
 saveRefusal c b = choose (saves c b) Accepted Image
 

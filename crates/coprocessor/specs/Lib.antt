@@ -4,3 +4,4 @@ pub mod Reads
 pub mod Writes
 pub mod Runs
 pub mod Images
+pub mod Inner

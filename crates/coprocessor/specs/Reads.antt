@@ -1,48 +1,27 @@
 -- The register bank as it reads back, and the answer of a read.
-use Prim.Native.Nat.{ℕ, _*_, _/_, _%_, _^_}
+use Prim.Native.Nat.{ℕ, _/_, _%_}
 use mathlib.Core.Bool.{not}
-use mathlib.Core.List.{List, [], _∷_}
+use mathlib.Core.List.{List}
 use lib.ListN.{getD}
 use Rattle.numbers.specs.Choose.{choose}
 use Rattle.numbers.specs.Bytes.{partOf}
-use Rattle.numbers.specs.Circles.{residue}
 use Rattle.parts.specs.declared.refusals.Refusal.{Refusal}
 use Rattle.parts.specs.declared.refusals.Refusal.the-variants.{Accepted, Place, Unlisted, Image}
 use Rattle.parts.specs.Refusals.{isAccepted}
 use Rattle.parts.specs.Registers.{placed, listed}
-use Rattle.rules.specs.Maps.{mapAt}
-use Rattle.image.specs.Words.{pointWord, spotWord, sizeWord, inksWord}
+use Rattle.image.specs.Words.{mapWords, termWords, colourWords, pointerWords, bankOf}
 use Rattle.coprocessor.specs.declared.Coprocessor.{Coprocessor}
 use Rattle.coprocessor.specs.declared.Found.{Found}
 use Rattle.coprocessor.specs.Valid.{validOf}
 
--- 01, Registers: the bank from offset 0 to 7F hex, a word of four bytes at each multiple of 4; 0 where no register is listed
+-- 01, Registers: what each listed register reads back, in the bank from offset 0 to 7F hex; 14 to 1C are those of the selected map; byte by byte in theorems/specs/Bank.antt
 unfoldable pub wordsOf : Coprocessor → List ℕ
 wordsOf c =
-    0 ∷ 0 ∷ 0 ∷ 0
-    ∷ (65536 * c .index)
-    ∷ mapAt (c .maps) (c .index) .base
-    ∷ sizeWord (mapAt (c .maps) (c .index))
-    ∷ mapAt (c .maps) (c .index) .format
-    ∷ residue (2 ^ 32) (c .terms .e)
-    ∷ residue (2 ^ 32) (c .terms .k1)
-    ∷ residue (2 ^ 32) (c .terms .k2)
-    ∷ c .steps
-    ∷ 0 ∷ 0 ∷ 0 ∷ 0 ∷ 0 ∷ 0
-    ∷ inksWord (c .foreground) (c .background) (c .compare)
-    ∷ c .compare .value
-    ∷ c .planes
-    ∷ c .carries
-    ∷ c .foreground .colour
-    ∷ c .background .colour
-    ∷ pointWord (c .dimensions)
-    ∷ 0 ∷ 0
-    ∷ pointWord (c .origin)
-    ∷ pointWord (c .source)
-    ∷ pointWord (c .pattern)
-    ∷ spotWord (c .destination)
-    ∷ c .operations
-    ∷ []
+    bankOf
+    (mapWords (c .index) (c .maps))
+    (termWords (c .terms) (c .steps))
+    (colourWords (c .foreground) (c .background) (c .compare) (c .planes) (c .carries) (c .dimensions))
+    (pointerWords (c .origin) (c .source) (c .pattern) (c .destination) (c .operations))
 
 -- 01, Registers: the bytes from the offset on, least significant first; at a multiple of its length a read lies in one word
 unfoldable pub valueAt : Coprocessor → ℕ → ℕ → ℕ

@@ -18,7 +18,7 @@ use Rattle.coprocessor.specs.declared.Coprocessor.{Coprocessor}
 use Rattle.coprocessor.specs.declared.Drawn.{Drawn}
 use Rattle.coprocessor.specs.Valid.{validOf}
 
--- what the drawing does not change: 01, Registers, 7C: the fields choose the maps
+-- 01, Registers, 7C: what the drawing does not change; the fields choose the maps
 unfoldable pub setupOf : Coprocessor → Setup
 setupOf c =
     record {
@@ -39,12 +39,12 @@ setupOf c =
       k2 = c .terms .k2;
     }
 
--- what it changes
+-- docs/DECISIONS.md, 25: what it changes
 unfoldable pub penOf : Coprocessor → Pen
 penOf c =
     record { source = c .source; pattern = c .pattern; destination = c .destination; e = c .terms .e; drawing = c .drawing }
 
--- the record with what the drawing changed
+-- docs/DECISIONS.md, 25: the record with what the drawing changed
 unfoldable pub withPen : Coprocessor → Pen → Coprocessor
 withPen c pen =
     record {
@@ -67,7 +67,7 @@ withPen c pen =
       drawing = pen .drawing;
     }
 
--- the run of n positions, or as many as there are
+-- 01, The functions: a run of n positions, or as many as there are
 unfoldable pub ranOf : Coprocessor → List ℕ → ℕ → Run
 ranOf c memory n = after (setupOf c) n (begun (penOf c) memory)
 
@@ -82,5 +82,6 @@ runAnswer c memory n =
     (record { refusal = choose (ranOf c memory n .beyond) Beyond Accepted; done = ranOf c memory n .done; coprocessor = withPen c (ranOf c memory n .pen) })
     (record { refusal = runRefusal c memory; done = 0; coprocessor = c })
 
+-- 01, Numbers a call answers with: the memory after it; a refusal 9 or 10 leaves it
 unfoldable pub runMemory : Coprocessor → List ℕ → ℕ → List ℕ
 runMemory c memory n = choose (isAccepted (runRefusal c memory)) (ranOf c memory n .memory) memory

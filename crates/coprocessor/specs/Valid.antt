@@ -17,17 +17,19 @@ use Rattle.coprocessor.specs.Fresh.{sizeHolds}
 unfoldable pub startRefusalOf : Coprocessor → Refusal
 startRefusalOf c = startRefusal (c .operations) (c .foreground .mix) (c .background .mix) (c .maps) (c .size)
 
--- 01, State image: every reduction holds, in all four maps
+-- 01, State image: the reductions of all four maps
 unfoldable pub mapsReduced : List Map → Bool
 mapsReduced maps =
     mapReduced (mapAt maps 0) && mapReduced (mapAt maps 1) && mapReduced (mapAt maps 2) && mapReduced (mapAt maps 3)
 
+-- 01, State image: dimensions, mask origin, source and pattern pointers of 12 bits, destination pointers on their circle
 unfoldable pub pointersReduced : Coprocessor → Bool
 pointersReduced c =
     (pointReduced (c .dimensions) && pointReduced (c .origin))
     && (pointReduced (c .source) && pointReduced (c .pattern))
     && spotReduced (c .destination)
 
+-- 01, State image: every reduction holds
 unfoldable pub reducedOf : Coprocessor → Bool
 reducedOf c =
     (ltb (c .index) 4 && mapsReduced (c .maps))
@@ -42,6 +44,6 @@ goesOn c =
     && isAccepted (startRefusalOf c)
     && pointersHold (c .operations) (c .maps) (c .source) (c .pattern))
 
--- 01, refusal 10, on a record
+-- 01, refusal 10, on a record; that its own image loads to it exactly then is `own-image` in theorems/proofs/LoadedLaws.antt
 unfoldable pub validOf : Coprocessor → Bool
 validOf c = sizeHolds (c .size) && reducedOf c && goesOn c

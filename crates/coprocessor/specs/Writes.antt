@@ -3,13 +3,14 @@ use Prim.Native.Nat.{ℕ, _%_}
 use mathlib.Core.Bool.{Bool, not, _&&_, _||_}
 use lib.ListN.{set}
 use Rattle.numbers.specs.Choose.{choose}
+use Rattle.numbers.specs.Bytes.{covers}
 use Rattle.numbers.specs.declared.bytes.Write.{Write}
 use Rattle.parts.specs.declared.refusals.Refusal.{Refusal}
 use Rattle.parts.specs.declared.refusals.Refusal.the-variants.{Accepted, Place, Unfinished, Unlisted, Function, Image}
 use Rattle.parts.specs.Refusals.{isAccepted}
 use Rattle.parts.specs.Drawings.{unfinished}
 use Rattle.parts.specs.Registers.{placed, listed}
-use Rattle.parts.specs.Latches.{touched, taken, takenLow}
+use Rattle.parts.specs.Latches.{taken, takenLow}
 use Rattle.parts.specs.Shapes.{mapTaken, termsTaken, inkTaken, compareTaken, pointTaken, spotTaken}
 use Rattle.rules.specs.Operations.{isLine, isCodes, isBlock, draws}
 use Rattle.rules.specs.Maps.{mapAt}
@@ -20,8 +21,8 @@ use Rattle.coprocessor.specs.Valid.{startRefusalOf, validOf}
 use Rattle.coprocessor.specs.Runs.{withPen}
 
 -- 01, Registers: each register takes the bytes that the write covers, then is reduced; 14 to 1C are those of the selected map
-unfoldable pub merged : Write → Coprocessor → Coprocessor
-merged w c =
+unfoldable pub stored : Write → Coprocessor → Coprocessor
+stored w c =
     record {
       size = c .size;
       index = takenLow 2 1 0x12 w (c .index);
@@ -45,7 +46,7 @@ merged w c =
 -- 01, Registers: a write covering 7F starts the stored function, except draw and step; one covering 2F starts draw and step if that is stored
 unfoldable pub startsBy : Write → Coprocessor → Bool
 startsBy w c =
-    (touched 1 0x7F w && (isLine (c .operations) || isBlock (c .operations))) || (touched 1 0x2F w && isCodes (c .operations))
+    (covers w 0x7F && (isLine (c .operations) || isBlock (c .operations))) || (covers w 0x2F && isCodes (c .operations))
 
 -- 01, Maps and pointers: used pointers are turned into their maps; 01, Registers: the drawing in hand, by as many codes as the write has bytes
 unfoldable pub started : ℕ → Coprocessor → Coprocessor
@@ -63,23 +64,18 @@ started length c =
 unfoldable pub startedRefusal : Write → Coprocessor → Refusal
 startedRefusal w c = choose (startsBy w c) (startRefusalOf c) Accepted
 
--- 01, Numbers a call answers with: 4, then 5 to 8 at a start, then 10
-unfoldable pub storeRefusal : Write → Coprocessor → Refusal
-storeRefusal w c =
-    choose (touched 1 0x7F w && not (draws (merged w c .operations))) Function
-    (choose (not (isAccepted (startedRefusal w (merged w c)))) (startedRefusal w (merged w c))
-    (choose (not (validOf c)) Image
-    Accepted))
-
--- 01, Numbers a call answers with: 1, 2, 3, then those of what is stored
+-- 01, Numbers a call answers with: the lowest of 1, 2, 3 and 4, of 5 to 8 at a start, and of 10
 unfoldable pub writeRefusal : Write → Coprocessor → Refusal
 writeRefusal w c =
     choose (not (placed (w .offset) (w .length))) Place
     (choose (unfinished (c .drawing)) Unfinished
     (choose (not (listed (w .length) (w .offset))) Unlisted
-    (storeRefusal w c)))
+    (choose (covers w 0x7F && not (draws (stored w c .operations))) Function
+    (choose (not (isAccepted (startedRefusal w (stored w c)))) (startedRefusal w (stored w c))
+    (choose (not (validOf c)) Image
+    Accepted)))))
 
--- the record that an accepted write leaves, from the one with its registers stored
+-- 01, Registers: the record that an accepted write leaves, from the one with its registers stored
 unfoldable pub settledBy : Write → Coprocessor → Coprocessor
 settledBy w c = choose (startsBy w c) (started (w .length) c) c
 
@@ -88,5 +84,5 @@ unfoldable pub writeAnswer : Write → Coprocessor → Written
 writeAnswer w c =
     record {
       refusal = writeRefusal w c;
-      coprocessor = choose (isAccepted (writeRefusal w c)) (settledBy w (merged w c)) c;
+      coprocessor = choose (isAccepted (writeRefusal w c)) (settledBy w (stored w c)) c;
     }

@@ -3,13 +3,13 @@ ghost use Prim.Native.Nat.{_%_};
 ghost use lib.ListN.{set};
 ghost use Rattle.parts.specs.Shapes.{mapTaken};
 ghost use Rattle.rules.specs.Maps.{mapAt};
-ghost use Rattle.coprocessor.specs.Writes.{merged, storeRefusal, writeRefusal, writeAnswer};
+ghost use Rattle.coprocessor.specs.Writes.{stored, writeRefusal, writeAnswer};
 use crate::Coprocessor;
 use crate::Written;
 use crate::starts::OPERATIONS_START;
 use numbers::bytes::Write;
 use parts::drawing::is_unfinished;
-use parts::latches::take_two_bits;
+use parts::latches::take_bits;
 use parts::latches::take_word;
 use parts::latches::touches;
 use parts::reduced::both;
@@ -40,7 +40,7 @@ fn latch_maps(maps: [Map; 4], index: u8, w: Write) -> [Map; 4]
 impl Coprocessor {
     // The record with the write's bytes stored and reduced.
     fn latched(self, w: Write) -> Coprocessor
-        ensures { λ r. ⌜ r ≡ merged w self ⌝ }
+        ensures { λ r. ⌜ r ≡ stored w self ⌝ }
     {
         let maps = self.maps;
         let terms = self.terms;
@@ -55,7 +55,7 @@ impl Coprocessor {
         let drawing = self.drawing;
         Coprocessor {
             size: self.size,
-            index: take_two_bits(self.index, 0x12, w),
+            index: take_bits(2, self.index, 0x12, w),
             maps: latch_maps(maps, self.index, w),
             terms: latch_terms(terms, w),
             steps: take_word(self.steps, 0x2C, w),
@@ -74,27 +74,9 @@ impl Coprocessor {
         }
     }
 
-    // Refusal 4, then 5 to 8, then 10, where `next` is the record with the write stored.
-    fn store_refusal(self, w: Write, next: Coprocessor) -> Refusal
-        requires { ⌜ next ≡ merged w self ⌝ }
-        ensures { λ r. ⌜ r ≡ storeRefusal w self ⌝ }
-    {
-        if both(touches(1, OPERATIONS_START, w), !draws(next.operations)) {
-            return Refusal::Function;
-        }
-        let started = next.started_refusal(w);
-        if !accepts(started) {
-            return started;
-        }
-        if !self.is_valid() {
-            return Refusal::Image;
-        }
-        Refusal::Accepted
-    }
-
     // The refusal of a write, if any, where `next` is the record with the write stored.
     fn write_refusal(self, w: Write, next: Coprocessor) -> Refusal
-        requires { ⌜ next ≡ merged w self ⌝ }
+        requires { ⌜ next ≡ stored w self ⌝ }
         ensures { λ r. ⌜ r ≡ writeRefusal w self ⌝ }
     {
         let offset = w.offset;
@@ -109,7 +91,17 @@ impl Coprocessor {
         if !is_listed(offset, length) {
             return Refusal::Unlisted;
         }
-        self.store_refusal(w, next)
+        if both(touches(1, OPERATIONS_START, w), !draws(next.operations)) {
+            return Refusal::Function;
+        }
+        let started = next.started_refusal(w);
+        if !accepts(started) {
+            return started;
+        }
+        if !self.is_valid() {
+            return Refusal::Image;
+        }
+        Refusal::Accepted
     }
 
     // Writes the `length` low bytes of `value` from `offset` on, and starts a drawing where that is asked; a refused write

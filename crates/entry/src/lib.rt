@@ -47,10 +47,10 @@ pub fn write_in(c: &mut Coprocessor, offset: u32, length: u32, value: u32) -> Re
 }
 
 // The smallest caller: it lends a record of its own to the entry.
-pub fn write_own(c: Coprocessor, offset: u32, length: u32, value: u32) -> Written
-    ensures { λ r. ⌜ r ≡ writeAnswer (record { offset = offset; length = length; value = value }) c ⌝ }
+pub fn write_own(held: Coprocessor, offset: u32, length: u32, value: u32) -> Written
+    ensures { λ r. ⌜ r ≡ writeAnswer (record { offset = offset; length = length; value = value }) held ⌝ }
 {
-    let mut own = c;
+    let mut own = held;
     let refusal = write_in(&mut own, offset, length, value);
     answer(refusal, own)
 }

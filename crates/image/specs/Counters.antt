@@ -1,6 +1,6 @@
 -- The drawing in hand, as bytes 9 to 14 of the image.
 use Prim.Native.Nat.{ℕ}
-use mathlib.Core.Bool.{Bool, true, false, _&&_}
+use mathlib.Core.Bool.{true, false}
 use lib.Dec.{eqb}
 use Rattle.numbers.specs.Choose.{choose}
 use Rattle.parts.specs.declared.drawing.Drawing.{Drawing}
@@ -15,7 +15,7 @@ countersOf (Line done) = record { state = 1; done = done; gone = 0; count = 0 }
 countersOf (Codes count code done) = record { state = 1; done = done; gone = code; count = count }
 countersOf (Block column row) = record { state = 1; done = column; gone = row; count = 0 }
 
--- docs/DECISIONS.md, 31: the drawing that these counters are, by the stored function
+-- 01, State image: the drawing that these counters are, by the stored function; a state other than 0 and 2 is taken for 1
 unfoldable pub drawingOf : ℕ → Counters → Drawing
 drawingOf operations k =
     choose (eqb (k .state) 0) (Nothing false)
@@ -23,6 +23,3 @@ drawingOf operations k =
     (choose (isLine operations) (Line (k .done))
     (choose (isCodes operations) (Codes (k .count) (k .gone) (k .done))
     (Block (k .done) (k .gone)))))
-
-unfoldable pub sameCounters : Counters → Counters → Bool
-sameCounters j k = eqb (j .state) (k .state) && eqb (j .done) (k .done) && eqb (j .gone) (k .gone) && eqb (j .count) (k .count)

@@ -7,15 +7,17 @@ use Rattle.pixels.specs.declared.Map.{Map}
 use Rattle.rules.specs.Maps.{mapAt}
 use Rattle.image.specs.declared.counters.Counters.{Counters}
 
--- so many bytes of a value, low byte first
+-- 01, State image: so many bytes of a value, low byte first
 pub record Field : Type 0 where
   pub bytes : ℕ
   pub value : ℕ
 
+-- 01, State image: n bytes of x
 infix 60 _bytes_
 abbrev pub _bytes_ : ℕ → ℕ → Field
 n bytes x = record { bytes = n; value = x }
 
+-- 01, State image: the fields one after another
 unfoldable pub laid : List Field → List ℕ
 laid [] = []
 laid (f ∷ fs) = le (f .bytes) (f .value) ++ laid fs
@@ -37,7 +39,7 @@ mapFields m = (4 bytes (m .base)) ∷ (2 bytes (m .width)) ∷ (2 bytes (m .heig
 unfoldable pub mapsFields : List Map → List Field
 mapsFields maps = mapFields (mapAt maps 0) ++ mapFields (mapAt maps 1) ++ mapFields (mapAt maps 2) ++ mapFields (mapAt maps 3)
 
--- so many words from this one on
+-- docs/DECISIONS.md, 28: so many words of the bank from this one on
 unfoldable pub wordFields : List ℕ → ℕ → ℕ → List Field
 wordFields words from zero = []
 wordFields words from (suc n) = (4 bytes (getD words from 0)) ∷ wordFields words (suc from) n

@@ -2,3 +2,4 @@ pub mod Words
 pub mod Counters
 pub mod Fields
 pub mod Places
+pub mod Inner

@@ -1,4 +1,4 @@
--- The numbers and parts that bytes are, from their places.
+-- What the bytes at each place of an image mean.
 use Prim.Native.Nat.{ℕ, _+_}
 use mathlib.Core.List.{List, [], _∷_}
 use lib.ListN.{take, drop}
@@ -13,20 +13,23 @@ use Rattle.parts.specs.declared.shapes.Point.{Point}
 use Rattle.parts.specs.declared.shapes.Spot.{Spot}
 use Rattle.image.specs.declared.counters.Counters.{Counters}
 
--- the number that n bytes from this offset on are
+-- 01, State image: the number that n bytes from this offset on are, low byte first
 unfoldable pub at : ℕ → ℕ → List ℕ → ℕ
 at k n b = numberOf (take n (drop k b))
 
+-- 01, State image: a map of nine bytes: base, width, height, format
 unfoldable pub mapFrom : ℕ → List ℕ → Map
 mapFrom k b = record { base = at k 4 b; width = at (k + 4) 2 b; height = at (k + 6) 2 b; format = at (k + 8) 1 b }
 
--- a mix and its colour, each from its offset
+-- 01, State image: a mix and its colour, each from its offset
 unfoldable pub inkFrom : ℕ → ℕ → List ℕ → Ink
 inkFrom mixAt colourAt b = record { mix = at mixAt 1 b; colour = at colourAt 4 b }
 
+-- 01, State image: X and Y of two bytes each
 unfoldable pub pointFrom : ℕ → List ℕ → Point
 pointFrom k b = record { x = at k 2 b; y = at (k + 2) 2 b }
 
+-- 01, State image: destination X and Y, signed, of two bytes each
 unfoldable pub spotFrom : ℕ → List ℕ → Spot
 spotFrom k b = record { x = toZ w16 (at k 2 b); y = toZ w16 (at (k + 2) 2 b) }
 

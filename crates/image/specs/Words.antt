@@ -12,7 +12,7 @@ use Rattle.parts.specs.declared.shapes.Point.{Point}
 use Rattle.parts.specs.declared.shapes.Spot.{Spot}
 use Rattle.rules.specs.Maps.{mapAt}
 
--- two registers of two bytes as one word
+-- 01, Registers: X and Y of two bytes each as one word
 unfoldable pub pointWord : Point → ℕ
 pointWord p = p .x + 65536 * p .y
 
@@ -20,6 +20,7 @@ pointWord p = p .x + 65536 * p .y
 unfoldable pub spotWord : Spot → ℕ
 spotWord s = residue (2 ^ 16) (s .x) + 65536 * residue (2 ^ 16) (s .y)
 
+-- 01, Registers: 18:2 width, 1A:2 height
 unfoldable pub sizeWord : Map → ℕ
 sizeWord map = map .width + 65536 * map .height
 

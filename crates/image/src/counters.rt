@@ -1,5 +1,6 @@
 ghost use mathlib.Core.Path.{_≡_};
-ghost use Rattle.image.specs.Counters.{countersOf, drawingOf, sameCounters};
+ghost use Rattle.image.specs.Counters.{countersOf, drawingOf};
+ghost use Rattle.image.specs.Inner.{sameCounters};
 use parts::drawing::Drawing;
 use parts::reduced::both;
 use rules::operations::is_codes;

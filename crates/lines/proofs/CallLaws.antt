@@ -10,7 +10,7 @@ use Rattle.lines.specs.declared.Number.{Number}
 use Rattle.lines.specs.declared.Number.the-variants.{Is, Not}
 use Rattle.lines.specs.declared.Call.the-variants.{Blank, Neither}
 use Rattle.lines.specs.Words.{kept, wordsOf}
-use Rattle.lines.specs.Scans.{skipped, wordOf, nextOf}
+use Rattle.lines.specs.Inner.{skipped, wordOf, nextOf}
 use Rattle.lines.specs.Digits.{numberOf}
 use Rattle.lines.specs.Calls.{isLetter, writeOf, runOf, writeFrom, runFrom, callFrom, callOf}
 use Rattle.lines.proofs.WordLaws.{words-skipped, skipped-starts, next-starts, words-word, words-first, words-none, next-some}

@@ -5,6 +5,7 @@ use Rattle.lines.specs.declared.Call.the-variants.{Write, Run, Blank, Ne
 use Rattle.lines.specs.Words.{isBlank, kept, split, wordsOf}
 use Rattle.lines.specs.Digits.{digitOf, digits, value, numberFrom, numberOf}
 use Rattle.lines.specs.Calls.{isLetter, writeOf, runOf, writeFrom, runFrom, callFrom, callOf}
+use Rattle.lines.specs.Gathered.{callIn}
 
 -- "w 7C 4 05018000"
 pub write-line : callOf (0x77 ∷ 0x20 ∷ 0x37 ∷ 0x43 ∷ 0x20 ∷ 0x34 ∷ 0x20 ∷ 0x30 ∷ 0x35 ∷ 0x30 ∷ 0x31 ∷ 0x38 ∷ 0x30 ∷ 0x30 ∷ 0x30 ∷ []) ≡ Write 0x7C 4 0x05018000
@@ -50,3 +51,13 @@ largest = refl
 pub too-large : callOf (0x72 ∷ 0x20 ∷ 0x34 ∷ 0x32 ∷ 0x39 ∷ 0x34 ∷ 0x39 ∷ 0x36 ∷ 0x37 ∷ 0x32 ∷ 0x39 ∷ 0x36 ∷ []) ≡ Neither
 unfolding isBlank kept split wordsOf digitOf digits value numberFrom numberOf isLetter writeOf runOf writeFrom runFrom callFrom callOf
 too-large = refl
+
+-- "r 1" in a buffer of 3 bytes, which it fills
+pub full-buffer : callIn (0x72 ∷ 0x20 ∷ 0x31 ∷ []) 3 ≡ Run 1
+unfolding isBlank kept split wordsOf digitOf digits value numberFrom numberOf isLetter writeOf runOf writeFrom runFrom callFrom callOf callIn
+full-buffer = refl
+
+-- a line of more than 3 bytes, of which the first are "r 1"
+pub over-full : callIn (0x72 ∷ 0x20 ∷ 0x31 ∷ []) 4 ≡ Neither
+unfolding isBlank kept split wordsOf digitOf digits value numberFrom numberOf isLetter writeOf runOf writeFrom runFrom callFrom callOf callIn
+over-full = refl

@@ -10,7 +10,18 @@ use lib.Seq.{length-take-le, take-suc-set}
 use borrow.Author.Tests.{lt-ltb, le-ltb, lt-leb}
 use Rattle.numbers.proofs.Order.{lt-or-le}
 use Rattle.lines.specs.declared.Call.the-variants.{Neither}
-use Rattle.lines.specs.Gathered.{countAfter, callIn, bufferAfter, countsAfter, lineCall}
+use Rattle.lines.specs.Calls.{lineCall}
+use Rattle.lines.specs.Gathered.{countAfter, callIn}
+
+-- the buffer after all these bytes, one by one
+unfoldable pub bufferAfter : List ℕ → ℕ → List ℕ → List ℕ
+bufferAfter buffer count [] = buffer
+bufferAfter buffer count (byte ∷ bytes) = bufferAfter (set buffer count byte) (countAfter (length buffer) count) bytes
+
+-- and how many of them there are then
+unfoldable pub countsAfter : ℕ → ℕ → List ℕ → ℕ
+countsAfter size count [] = count
+countsAfter size count (byte ∷ bytes) = countsAfter size (countAfter size count) bytes
 
 count-fits : (size count : ℕ) → count < size → countAfter size count ≡ suc count
 unfolding countAfter
@@ -22,7 +33,7 @@ count-full size count full = rw (le-ltb count size full)
 
 -- ---- a line that does not fit
 
-buffer-length : (buffer : List ℕ) (count : ℕ) (bytes : List ℕ) → length (bufferAfter buffer count bytes) ≡ length buffer
+pub buffer-length : (buffer : List ℕ) (count : ℕ) (bytes : List ℕ) → length (bufferAfter buffer count bytes) ≡ length buffer
 unfolding bufferAfter
 buffer-length buffer count [] = refl
 buffer-length buffer count (b ∷ bytes) = buffer-length (set buffer count b) (countAfter (length buffer) count) bytes ∙ length-set buffer count b
@@ -73,3 +84,34 @@ gathers (b ∷ bytes) buffer count within =
 -- from its first byte on, a gathered line is the line
 pub line-gathered : (buffer line : List ℕ) → callIn (bufferAfter buffer 0 line) (countsAfter (length buffer) 0 line) ≡ lineCall (length buffer) line
 line-gathered buffer line = gathers line buffer 0 (omega arith)
+
+-- ---- one byte after a line so far
+
+pub buffer-last : (buffer : List ℕ) (count : ℕ) (bytes : List ℕ) (b : ℕ)
+    → bufferAfter buffer count (bytes ++ (b ∷ [])) ≡ set (bufferAfter buffer count bytes) (countsAfter (length buffer) count bytes) b
+unfolding bufferAfter countsAfter
+buffer-last buffer count [] b = refl
+buffer-last buffer count (c ∷ bytes) b = rw (length-set buffer count c) at (buffer-last (set buffer count c) (countAfter (length buffer) count) bytes b)
+
+pub counts-last : (size count : ℕ) (bytes : List ℕ) (b : ℕ) → countsAfter size count (bytes ++ (b ∷ [])) ≡ countAfter size (countsAfter size count bytes)
+unfolding countsAfter
+counts-last size count [] b = refl
+counts-last size count (c ∷ bytes) b = counts-last size (countAfter size count) bytes b
+
+-- ---- a line that has any byte
+
+count-some : (size count : ℕ) → 0 < countAfter size count
+count-some size count =
+    ⊎-elim
+    (λ fits. rw (count-fits size count fits) (omega arith))
+    (λ full. rw (count-full size count full) (omega arith))
+    (lt-or-le count size)
+
+counts-stay : (size count : ℕ) (bytes : List ℕ) → 0 < count → 0 < countsAfter size count bytes
+unfolding countsAfter
+counts-stay size count [] some = some
+counts-stay size count (b ∷ bytes) some = counts-stay size (countAfter size count) bytes (count-some size count)
+
+pub counts-some : (size b : ℕ) (bytes : List ℕ) → 0 < countsAfter size 0 (b ∷ bytes)
+unfolding countsAfter
+counts-some size b bytes = counts-stay size (countAfter size 0) bytes (count-some size 0)

@@ -8,7 +8,7 @@ use native.Mathlib.Omega.{arith}
 use lib.ListN.{length, getD, take, drop, length-drop, drop-of-length-le}
 use lib.Seq.{take-length, drop-cons}
 use Rattle.numbers.specs.Choose.{choose}
-use Rattle.lines.specs.Scans.{matches, span}
+use Rattle.lines.specs.Inner.{matches, span}
 
 -- at the end nothing is left
 pub span-end : (blank : Bool) (s : List ℕ) (i : ℕ) → length s ≤ i → span blank (drop i s) ≡ 0

@@ -6,7 +6,7 @@ use Prim.Native.Nat.{ℕ, _<_}
 use native.Mathlib.Omega.{arith}
 use lib.ListN.{length, drop}
 use Rattle.lines.specs.Words.{isBlank, kept, split, wordsOf}
-use Rattle.lines.specs.Scans.{matches, span, skipped, wordOf, nextOf}
+use Rattle.lines.specs.Inner.{matches, span, skipped, wordOf, nextOf}
 
 -- ---- blanks at the start
 

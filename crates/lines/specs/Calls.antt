@@ -2,7 +2,8 @@
 use mathlib.Core.Bool.{Bool, false, _||_}
 use mathlib.Core.List.{List, [], _∷_}
 use Prim.Native.Nat.{ℕ}
-use lib.Dec.{eqb}
+use lib.ListN.{length}
+use lib.Dec.{leb, eqb}
 use Rattle.numbers.specs.Choose.{choose}
 use Rattle.lines.specs.declared.Number.{Number}
 use Rattle.lines.specs.declared.Number.the-variants.{Is, Not}
@@ -17,13 +18,14 @@ isLetter upper lower [] = false
 isLetter upper lower (byte ∷ []) = eqb byte upper || eqb byte lower
 isLetter upper lower (byte ∷ next ∷ bytes) = false
 
--- a write, if all three are numbers
+-- 01, the bench program: a write, if all three are numbers
 unfoldable pub writeOf : Number → Number → Number → Call
 writeOf (Is offset) (Is length) (Is value) = Write offset length value
 writeOf (Is offset) (Is length) Not = Neither
 writeOf (Is offset) Not value = Neither
 writeOf Not length value = Neither
 
+-- 01, the bench program: a run, if its allowance is a number
 unfoldable pub runOf : Number → Call
 runOf (Is allowance) = Run allowance
 runOf Not = Neither
@@ -51,3 +53,7 @@ callFrom (name ∷ words) =
 -- 01, the bench program: the call that a line is
 unfoldable pub callOf : List ℕ → Call
 callOf line = callFrom (wordsOf line)
+
+-- docs/DECISIONS.md, 44: a line of more than so many bytes is neither, whatever it holds
+unfoldable pub lineCall : ℕ → List ℕ → Call
+lineCall size line = choose (leb (length line) size) (callOf line) Neither

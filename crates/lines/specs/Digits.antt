@@ -15,12 +15,12 @@ digitOf byte =
     (choose (leb 97 byte && leb byte 102) (byte - 87)
     16))
 
--- whether every byte is a digit of this base
+-- 01, the bench program: whether every byte is a digit of this base
 unfoldable pub digits : ℕ → List ℕ → Bool
 digits base [] = true
 digits base (byte ∷ bytes) = ltb (digitOf byte) base && digits base bytes
 
--- the number that these digits make after the number n, the most significant first
+-- 01, the bench program: the number that these digits make after the number n, the most significant first
 unfoldable pub value : ℕ → ℕ → List ℕ → ℕ
 value base n [] = n
 value base n (byte ∷ bytes) = value base (n * base + digitOf byte) bytes
@@ -29,7 +29,7 @@ value base n (byte ∷ bytes) = value base (n * base + digitOf byte) bytes
 unfoldable pub numberFrom : ℕ → ℕ → List ℕ → Number
 numberFrom base n bytes = choose (digits base bytes && ltb (value base n bytes) (2 ^ 32)) (Is (value base n bytes)) Not
 
--- the number that a word is; no word is none
+-- 01, the bench program: the number that a word is; no word is none
 unfoldable pub numberOf : ℕ → List ℕ → Number
 numberOf base [] = Not
 numberOf base (byte ∷ bytes) = numberFrom base 0 (byte ∷ bytes)

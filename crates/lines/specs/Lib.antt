@@ -1,5 +1,5 @@
 pub mod Words
-pub mod Scans
 pub mod Digits
 pub mod Calls
 pub mod Gathered
+pub mod Inner

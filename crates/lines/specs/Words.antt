@@ -9,15 +9,16 @@ use Rattle.numbers.specs.Choose.{choose}
 unfoldable pub isBlank : ℕ → Bool
 isBlank byte = eqb byte 32 || eqb byte 9 || eqb byte 13
 
--- these words after the word under way, if there is one
+-- docs/DECISIONS.md, 44: these words after the word under way, if there is one
 unfoldable pub kept : List ℕ → List (List ℕ) → List (List ℕ)
 kept [] words = words
 kept (byte ∷ bytes) words = (byte ∷ bytes) ∷ words
 
--- the words of a line, of which the first bytes of a word came already
+-- docs/DECISIONS.md, 44: the words of a line, of which the first bytes of a word came already
 unfoldable pub split : List ℕ → List ℕ → List (List ℕ)
 split came [] = kept came []
 split came (byte ∷ bytes) = choose (isBlank byte) (kept came (split [] bytes)) (split (came ++ (byte ∷ [])) bytes)
 
+-- docs/DECISIONS.md, 44: the words of a line
 unfoldable pub wordsOf : List ℕ → List (List ℕ)
 wordsOf line = split [] line

@@ -3,7 +3,7 @@ ghost use mathlib.Core.Path.{_≡_};
 ghost use Prim.Native.Nat.{_≤_};
 ghost use Rattle.lines.specs.Digits.{numberOf};
 ghost use Rattle.lines.specs.Words.{wordsOf};
-ghost use Rattle.lines.specs.Scans.{wordOf};
+ghost use Rattle.lines.specs.Inner.{wordOf};
 ghost use Rattle.lines.specs.Calls.{isLetter, writeOf, runOf, writeFrom, runFrom, callOf};
 use crate::Call;
 use crate::Number;

@@ -1,7 +1,7 @@
 // The words of a line.
 ghost use mathlib.Core.Path.{_≡_};
 ghost use Rattle.lines.specs.Words.{isBlank};
-ghost use Rattle.lines.specs.Scans.{matches as Scans·matches, span as Scans·span, skipped, wordOf, nextOf};
+ghost use Rattle.lines.specs.Inner.{matches as Inner·matches, span as Inner·span, skipped, wordOf, nextOf};
 
 // Whether the byte stands between words.
 fn is_blank(byte: u8) -> bool
@@ -18,7 +18,7 @@ fn is_blank(byte: u8) -> bool
 
 // Whether the byte is a blank, or is none.
 fn matches(byte: u8, blank: bool) -> bool
-    ensures { λ r. ⌜ r ≡ Scans·matches blank byte ⌝ }
+    ensures { λ r. ⌜ r ≡ Inner·matches blank byte ⌝ }
 {
     if blank {
         is_blank(byte)
@@ -29,7 +29,7 @@ fn matches(byte: u8, blank: bool) -> bool
 
 // How many bytes at the start are blanks, or are none.
 fn span(s: &[u8], blank: bool) -> usize
-    ensures { λ r. ⌜ r ≡ Scans·span blank (now (s .entry)) ⌝ }
+    ensures { λ r. ⌜ r ≡ Inner·span blank (now (s .entry)) ⌝ }
 {
     let mut i = 0;
     while i < s.len() {

@@ -1,5 +1,5 @@
 -- The mix under the plane mask: its bound, its low bits, and its bits outside the mask, from those of the merge by induction on the pixel's bits.
-use mathlib.Core.Bool.{Bool, true, false}
+use mathlib.Core.Bool.{Bool}
 use mathlib.Core.Path.{_≡_, refl, _∙_}
 use Prim.Native.Nat.{ℕ, zero, suc, _+_, _-_, _*_, _/_, _%_, _^_, _≤_, _<_}
 use native.Mathlib.Nat.{mod-mod, div-one, mod-one, not-suc-le-zero, le-of-suc-le-suc}
@@ -8,6 +8,7 @@ use lib.Bits.{bitAnd, bitOr, bitXor}
 use lib.Dec.{eqb}
 use borrow.Author.Tests.{lt-ltb, le-ltb}
 use Rattle.numbers.specs.Choose.{choose}
+use Rattle.numbers.proofs.Choices.{choose-either}
 use Rattle.mixes.specs.Mixes.{merged, mixed, logical, arithmetic}
 use Rattle.mixes.proofs.Binary.{last-lt, pair-lt, pair-last, pair-half, low-last, low-half, low-suc, bit-suc}
 use Rattle.mixes.proofs.Bitwise.{Bitwise, agree-all, mask, source, destination, and, or, not}
@@ -17,8 +18,7 @@ use Rattle.mixes.proofs.ArithmeticMixes.{arithmetic-low}
 -- ---- the merge
 
 picked-lt : (t : Bool) (r d : ℕ) → choose t (r % 2) (d % 2) < 2
-picked-lt true r d = last-lt r
-picked-lt false r d = last-lt d
+picked-lt t r d = choose-either (λ (x : ℕ). x < 2) t (last-lt r) (last-lt d)
 
 pub merged-lt : (n m r d : ℕ) → merged n m r d < 2 ^ n
 unfolding merged

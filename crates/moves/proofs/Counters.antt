@@ -9,6 +9,7 @@ use lib.Dec.{ltb, eqb}
 use borrow.Author.Tests.{lt-ltb, le-ltb, le-leb, leb-true, ltb-true, eq-eqb, ne-eqb, eqb-false, not-true}
 use Rattle.numbers.specs.Choose.{choose}
 use Rattle.numbers.proofs.Order.{lt-or-le}
+use Rattle.numbers.proofs.Choices.{by-lt, by-eq, and-left, and-right, and-both}
 use Rattle.parts.specs.declared.shapes.Point.{Point}
 use Rattle.parts.specs.declared.drawing.Drawing.{Drawing}
 use Rattle.parts.specs.declared.drawing.Drawing.the-variants.{Nothing, Line, Codes, Block}
@@ -18,7 +19,6 @@ use Rattle.rules.specs.Totals.{codesFrom, leftOf}
 use Rattle.moves.specs.declared.Setup.{Setup}
 use Rattle.moves.specs.declared.Pen.{Pen}
 use Rattle.moves.specs.Moves.{penStepped, penWith, penGone, lineMoved, codePassed, codesMoved, columnPassed, rowPassed, blockMoved, movedBy, moved}
-use Rattle.moves.proofs.Choices.{by-lt, by-eq, and-left, and-right, and-both}
 
 -- ---- the drawing after a position
 

@@ -10,6 +10,7 @@ use borrow.Author.Tests.{leb-true, le-leb}
 use Rattle.numbers.specs.Choose.{choose}
 use Rattle.numbers.specs.Circles.{circle}
 use Rattle.numbers.proofs.CircleLaws.{circle-circle}
+use Rattle.numbers.proofs.Choices.{by-test, by-lt, and-left, and-right, and-both}
 use Rattle.pixels.specs.declared.Map.{Map}
 use Rattle.parts.specs.declared.shapes.Point.{Point}
 use Rattle.parts.specs.declared.shapes.Spot.{Spot}
@@ -23,7 +24,6 @@ use Rattle.moves.specs.declared.Setup.{Setup}
 use Rattle.moves.specs.declared.Pen.{Pen}
 use Rattle.moves.specs.Turns.{turnedBy, pointStepped, spotStepped}
 use Rattle.moves.specs.Moves.{penStepped, penWith, penGone, lineError, lineMoved, codesMoved, columnPassed, rowPoint, rowSpot, rowPassed, blockMoved, movedBy, moved}
-use Rattle.moves.proofs.Choices.{by-test, by-lt, and-left, and-right, and-both}
 use Rattle.moves.proofs.TurnLaws.{turned-in}
 use Rattle.moves.proofs.CircledLaws.{OnCircle, circled-on}
 

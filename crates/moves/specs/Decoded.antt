@@ -9,7 +9,7 @@ use Rattle.moves.specs.declared.Turn.the-variants.{Forth, Back}
 use Rattle.moves.specs.declared.Course.{Course}
 use Rattle.moves.specs.declared.Flow.{Flow}
 
--- a sign bit: 1 is negative
+-- 01, The functions: a sign bit: 1 is negative
 unfoldable pub signOf : ℕ → Turn
 signOf bit = choose (eqb bit 1) Back Forth
 
@@ -24,7 +24,7 @@ courseOf operations =
       inverts = eqb (functionOf operations) 9;
     }
 
--- 01, One position: pattern code 9 derives the pattern from the source; a source field of 10 takes the source pixel for the colour
+-- 003, Pixel Operations Register: which maps are used, whether the pattern is made from the source (9), which source fields are 10, the mask mode and the drawing mode
 unfoldable pub flowOf : ℕ → Flow
 flowOf operations =
     record {

@@ -15,8 +15,6 @@ use Rattle.rules.specs.Starts.{codeAt}
 use Rattle.moves.specs.declared.Turn.the-variants.{Stay, Forth}
 use Rattle.moves.specs.declared.Step.{Step}
 use Rattle.moves.specs.declared.Course.{Course}
-use Rattle.moves.specs.declared.Way.{Way}
-use Rattle.moves.specs.declared.Way.the-variants.{Along, Row, Here}
 use Rattle.moves.specs.declared.Setup.{Setup}
 use Rattle.moves.specs.declared.Pen.{Pen}
 use Rattle.moves.specs.Turns.{opposite, turnedBy, circledBy, pointStepped, spotStepped}
@@ -26,10 +24,11 @@ use Rattle.moves.specs.Steps.{lineStep, codeStep}
 abbrev pub right : Step
 right = record { x = Forth; y = Stay }
 
--- docs/DIFFERENCES.md, D3: at a step of a line or code, read forms move source and pattern by the step and destination X by +1; write forms the reverse
+-- docs/DIFFERENCES.md, D3: at a step of a line or code, read forms move source and pattern by the step, write forms by +1 in X
 unfoldable pub sourceBy : Course → Step → Step
 sourceBy course step = choose (course .read) step right
 
+-- 01, The functions: write forms move the destination by the step, read forms by +1 in X
 unfoldable pub destinationBy : Course → Step → Step
 destinationBy course step = choose (course .read) right step
 
@@ -44,7 +43,7 @@ penStepped s bySource byDestination e drawing pen =
       drawing = drawing;
     }
 
--- the pen with another drawing in hand, its pointers and E as they are
+-- 01, The functions: no step: pointers and E stay, with another drawing in hand
 unfoldable pub penWith : Drawing → Pen → Pen
 penWith drawing pen =
     record { source = pen .source; pattern = pen .pattern; destination = pen .destination; e = pen .e; drawing = drawing }
@@ -99,6 +98,7 @@ rowSpot s p =
       y = circledBy (choose (s .course .inverts) (opposite (s .course .y)) (s .course .y)) 1 (p .y);
     }
 
+-- 01, The functions, PxBlt: the pen past a row's end; unused pointers stay
 unfoldable pub rowPassed : Setup → Drawing → Pen → Pen
 rowPassed s drawing pen =
     record {
@@ -122,12 +122,6 @@ movedBy s (Line done) pen = lineMoved s done pen
 movedBy s (Codes count code done) pen = codesMoved s count code done pen
 movedBy s (Block column row) pen = blockMoved s column row pen
 
+-- 01, The functions: the move is part of the position before it
 unfoldable pub moved : Setup → Pen → Pen
 moved s pen = movedBy s (pen .drawing) pen
-
--- the pen come this way: its used pointers stepped, past a row's end, or as it is with another drawing in hand
-unfoldable pub gone : Setup → Way → Pen → Pen
-gone s (Along fromX fromY toX toY e drawing) pen =
-    penStepped s (record { x = fromX; y = fromY }) (record { x = toX; y = toY }) e drawing pen
-gone s (Row drawing) pen = rowPassed s drawing pen
-gone s (Here drawing) pen = penWith drawing pen

@@ -9,7 +9,7 @@ use Rattle.moves.specs.declared.Turn.{Turn}
 use Rattle.moves.specs.declared.Turn.the-variants.{Stay, Forth, Back}
 use Rattle.moves.specs.declared.Step.{Step}
 
--- the other way
+-- 01, The functions, PxBlt: the other way
 unfoldable pub opposite : Turn → Turn
 opposite Stay = Stay
 opposite Forth = Back
@@ -27,10 +27,10 @@ circledBy Stay k z = z
 circledBy Forth k z = circle 2048 8192 (z +ℤ pos k)
 circledBy Back k z = circle 2048 8192 (z -ℤ pos k)
 
--- one step of a source or pattern pointer in its map
+-- 01, Maps and pointers: one step of a source or pattern pointer in its map
 unfoldable pub pointStepped : Map → Step → Point → Point
 pointStepped map s p = record { x = turnedBy (s .x) 1 (map .width) (p .x); y = turnedBy (s .y) 1 (map .height) (p .y) }
 
--- one step of the destination pointer
+-- 01, Maps and pointers: one step of the destination pointer
 unfoldable pub spotStepped : Step → Spot → Spot
 spotStepped s p = record { x = circledBy (s .x) 1 (p .x); y = circledBy (s .y) 1 (p .y) }

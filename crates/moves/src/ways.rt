@@ -4,6 +4,7 @@ ghost use Prim.Native.Nat.{_+_};
 ghost use lib.Dec.{ltb};
 ghost use Rattle.numbers.specs.Choose.{choose};
 ghost use Rattle.moves.specs.Moves as defined;
+ghost use Rattle.moves.specs.Inner.{gone};
 use crate::Course;
 use crate::Pen;
 use crate::Setup;
@@ -54,7 +55,7 @@ fn line_error(setup: Setup, e: i32) -> i32
 
 // The way from a position of a line.
 fn line_way(setup: Setup, done: u16, pen: Pen) -> Way
-    ensures { λ r. ⌜ defined.gone setup r pen ≡ defined.lineMoved setup done pen ⌝ }
+    ensures { λ r. ⌜ gone setup r pen ≡ defined.lineMoved setup done pen ⌝ }
 {
     let course = setup.course;
     if done < setup.dimensions.x {
@@ -93,7 +94,7 @@ fn pass_code(steps: u32, count: u8, code: u16) -> Drawing
 
 // The way from a position of a code.
 fn code_way(setup: Setup, count: u8, code: u16, done: u16, pen: Pen) -> Way
-    ensures { λ r. ⌜ defined.gone setup r pen ≡ defined.codesMoved setup count code done pen ⌝ }
+    ensures { λ r. ⌜ gone setup r pen ≡ defined.codesMoved setup count code done pen ⌝ }
 {
     let course = setup.course;
     let current = code_at(setup.steps, count, code);
@@ -131,7 +132,7 @@ fn row_after(row: u16, last: u16) -> Drawing
 
 // The way from a position of a block.
 fn block_way(setup: Setup, column: u16, row: u16, pen: Pen) -> Way
-    ensures { λ r. ⌜ defined.gone setup r pen ≡ defined.blockMoved setup column row pen ⌝ }
+    ensures { λ r. ⌜ gone setup r pen ≡ defined.blockMoved setup column row pen ⌝ }
 {
     let course = setup.course;
     let x = course.x;
@@ -156,7 +157,7 @@ fn block_way(setup: Setup, column: u16, row: u16, pen: Pen) -> Way
 
 // The way from this position; with nothing in hand there is none.
 pub(crate) fn way_of(setup: Setup, pen: Pen) -> Way
-    ensures { λ r. ⌜ defined.gone setup r pen ≡ defined.moved setup pen ⌝ }
+    ensures { λ r. ⌜ gone setup r pen ≡ defined.moved setup pen ⌝ }
 {
     let drawing = pen.drawing;
     match drawing {

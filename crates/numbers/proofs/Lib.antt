@@ -1,3 +1,4 @@
+pub mod Choices
 pub mod ByteLaws
 pub mod CircleLaws
 pub mod SignedLaws

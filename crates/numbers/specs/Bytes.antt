@@ -16,19 +16,19 @@ unfoldable pub numberOf : List ℕ → ℕ
 numberOf [] = 0
 numberOf (b ∷ bs) = b + 256 * numberOf bs
 
--- byte k of x
+-- 01, Registers: byte k of x
 unfoldable pub byteOf : ℕ → ℕ → ℕ
 byteOf x k = x / 256 ^ k % 256
 
--- the n bytes of x that follow its lowest skip bytes
+-- 01, Registers: the n bytes of x that follow its lowest skip bytes
 unfoldable pub partOf : ℕ → ℕ → ℕ → ℕ
 partOf skip n x = x / 256 ^ skip % 256 ^ n
 
--- 01, Registers: the n low bits of x, to which map index (2), condition (3), format (4) and sizes (12) are reduced
+-- 01, Registers: the n low bits of x, to which map index (2), condition (3), format (4), and sizes, dimensions, mask origin and pointers (12) are reduced
 abbrev pub low : ℕ → ℕ → ℕ
 low n x = x % 2 ^ n
 
--- whether the write covers the register byte at this offset
+-- 01, Registers: whether the write covers the register byte at this offset
 unfoldable pub covers : Write → ℕ → Bool
 covers w at = leb (w .offset) at && ltb (at - w .offset) (w .length)
 
@@ -38,6 +38,6 @@ latchedBytes zero at w stored = []
 latchedBytes (suc n) at w stored =
     choose (covers w at) (byteOf (w .value) (at - w .offset)) (stored % 256) ∷ latchedBytes n (suc at) w (stored / 256)
 
--- the number of n bytes that a register at this offset holds after the write, before it is reduced
+-- 01, Registers: the number of n bytes that a register at this offset holds after the write, before it is reduced
 unfoldable pub latched : ℕ → ℕ → Write → ℕ → ℕ
 latched n at w stored = numberOf (latchedBytes n at w stored)

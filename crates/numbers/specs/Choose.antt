@@ -1,4 +1,4 @@
--- The choice by which every definition of the house goes by a test.
+-- If, then, else: how every definition goes by a test.
 use mathlib.Core.Bool.{Bool, true, false}
 
 -- a where the test holds, b where it does not

@@ -6,7 +6,7 @@ use lib.IntN.{ℤ, pos, negsuc, subℕ}
 unfoldable pub forth : ℕ → ℕ → ℕ → ℕ
 forth size k x = (x + k) % size
 
--- the same, k steps back
+-- 01, Maps and pointers: the same, k steps back
 unfoldable pub back : ℕ → ℕ → ℕ → ℕ
 back size k x = (x + (size - k % size)) % size
 

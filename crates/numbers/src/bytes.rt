@@ -34,25 +34,12 @@ pub fn part(x: u32, skip: u32, length: u32) -> u32
     (above % (1u64 << (8 * length))) as u32
 }
 
-// The low 2 bits.
-pub fn two_bits(x: u32) -> u8
-    ensures { λ r. ⌜ r ≡ low 2 x ⌝ }
+// The low bits of a byte, so many of them.
+pub fn low_bits(bits: u32, x: u8) -> u8
+    requires { ⌜ bits ≤ 8 ⌝ }
+    ensures { λ r. ⌜ r ≡ low bits x ⌝ }
 {
-    (x % 4) as u8
-}
-
-// The low 3 bits.
-pub fn three_bits(x: u32) -> u8
-    ensures { λ r. ⌜ r ≡ low 3 x ⌝ }
-{
-    (x % 8) as u8
-}
-
-// The low 4 bits.
-pub fn four_bits(x: u32) -> u8
-    ensures { λ r. ⌜ r ≡ low 4 x ⌝ }
-{
-    (x % 16) as u8
+    (x as u32 % (1u32 << bits)) as u8
 }
 
 // The low 12 bits.

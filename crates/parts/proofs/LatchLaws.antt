@@ -1,23 +1,34 @@
 -- The laws of a register in a write: one that the write does not touch stays, and one that it touches is below its bound, whichever way the choice goes.
 use mathlib.Core.Path.{_≡_, refl, _∙_}
 use mathlib.Core.Bool.{Bool, true, false, true≢false, and-eq-true-iff}
+use mathlib.Core.Logic.{⊎-elim}
 use Prim.Native.Nat.{ℕ, _+_, _-_, _^_, _≤_, _<_}
 use native.Mathlib.Nat.{mod-lt, mod-eq-of-lt}
 use native.Mathlib.Omega.{arith}
 use lib.Dec.{leb, ltb}
 use lib.IntN.{ℤ}
 use lib.Pow.{pow-pos}
-use borrow.Author.Tests.{leb-true, ltb-true, lt-ltb}
-use Rattle.numbers.specs.Choose.{choose}
+use borrow.Author.Tests.{leb-true, ltb-true, le-leb, lt-leb, lt-ltb, le-ltb}
 use Rattle.numbers.specs.Bytes.{covers, latched}
 use Rattle.numbers.specs.declared.bytes.Write.{Write}
 use Rattle.numbers.proofs.ByteLaws.{latched-lt, latched-uncovered}
+use Rattle.numbers.proofs.Choices.{choose-either}
+use Rattle.numbers.proofs.Order.{lt-or-le}
 use Rattle.parts.specs.Latches.{touched, taken, takenLow, takenTerm, takenDestination}
 
--- what holds of both holds of the chosen one
-pub choose-either : {A : Type 0} (P : A → Type 0) (t : Bool) {a b : A} → P a → P b → P (choose t a b)
-choose-either P true p q = p
-choose-either P false p q = q
+-- ---- a register of one byte
+
+-- a write touches it exactly where it covers that byte
+pub touched-one : (at : ℕ) (w : Write) → touched 1 at w ≡ covers w at
+unfolding touched covers
+touched-one at w =
+    ⊎-elim (λ below. rw (le-ltb (w .offset) (at + 1) (omega arith), lt-leb (w .offset) at below))
+    (λ from.
+    rw (lt-ltb (w .offset) (at + 1) (omega arith), le-leb (w .offset) at from)
+    (⊎-elim (λ inside. rw (lt-ltb at (w .offset + w .length) inside, lt-ltb (at - w .offset) (w .length) (omega arith)))
+    (λ past. rw (le-ltb at (w .offset + w .length) past, le-ltb (at - w .offset) (w .length) (omega arith)))
+    (lt-or-le at (w .offset + w .length))))
+    (lt-or-le at (w .offset))
 
 -- ---- a register that the write does not touch
 

@@ -11,13 +11,14 @@ use borrow.Author.Tests.{leb-true, ltb-true, le-leb, lt-ltb}
 use Rattle.numbers.specs.Circles.{forth, residue, circle}
 use Rattle.numbers.specs.declared.bytes.Write.{Write}
 use Rattle.numbers.proofs.CircleLaws.{sub-cases}
+use Rattle.numbers.proofs.Choices.{choose-either}
 use Rattle.parts.specs.Latches.{touched, takenLow, takenTerm, takenDestination}
 use Rattle.parts.specs.Reduced.{termReduced, destinationReduced}
-use Rattle.parts.proofs.LatchLaws.{choose-either, low-taken-lt}
+use Rattle.parts.proofs.LatchLaws.{low-taken-lt}
 
--- two tests at once
-pub and-both : {a b c d : Bool} → (a ≡ true → c ≡ true) → (b ≡ true → d ≡ true) → a && b ≡ true → c && d ≡ true
-and-both {a} {b} {c} {d} f g e =
+-- what is kept of each part of a test is kept of both
+pub both-kept : {a b c d : Bool} → (a ≡ true → c ≡ true) → (b ≡ true → d ≡ true) → a && b ≡ true → c && d ≡ true
+both-kept {a} {b} {c} {d} f g e =
     let parts = and-eq-true-iff a b .0 e in
     and-eq-true-iff c d .1 (f (parts .0), g (parts .1))
 

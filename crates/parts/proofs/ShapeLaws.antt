@@ -13,20 +13,20 @@ use Rattle.parts.specs.Latches.{touched}
 use Rattle.parts.specs.Shapes.{mapTaken, termsTaken, inkTaken, compareTaken, pointTaken, spotTaken}
 use Rattle.parts.specs.Reduced.{mapReduced, termsReduced, compareReduced, pointReduced, spotReduced}
 use Rattle.parts.proofs.LatchLaws.{taken-untouched, low-untouched, term-untouched, destination-untouched}
-use Rattle.parts.proofs.ReducedLaws.{and-both, low-taken-reduced, term-taken-reduced, destination-taken-reduced}
+use Rattle.parts.proofs.ReducedLaws.{both-kept, low-taken-reduced, term-taken-reduced, destination-taken-reduced}
 
 -- ---- what was reduced stays reduced
 
 pub map-taken-reduced : (w : Write) (m : Map) → mapReduced m ≡ true → mapReduced (mapTaken w m) ≡ true
 unfolding mapReduced mapTaken
 map-taken-reduced w m =
-    and-both (and-both (low-taken-reduced 12 2 0x18 w (m .width)) (low-taken-reduced 12 2 0x1A w (m .height)))
+    both-kept (both-kept (low-taken-reduced 12 2 0x18 w (m .width)) (low-taken-reduced 12 2 0x1A w (m .height)))
     (low-taken-reduced 4 1 0x1C w (m .format))
 
 pub terms-taken-reduced : (w : Write) (t : Terms) → termsReduced t ≡ true → termsReduced (termsTaken w t) ≡ true
 unfolding termsReduced termsTaken
 terms-taken-reduced w t =
-    and-both (and-both (term-taken-reduced 0x20 w (t .e)) (term-taken-reduced 0x24 w (t .k1))) (term-taken-reduced 0x28 w (t .k2))
+    both-kept (both-kept (term-taken-reduced 0x20 w (t .e)) (term-taken-reduced 0x24 w (t .k1))) (term-taken-reduced 0x28 w (t .k2))
 
 pub compare-taken-reduced : (w : Write) (c : Compare) → compareReduced c ≡ true → compareReduced (compareTaken w c) ≡ true
 unfolding compareReduced compareTaken
@@ -34,11 +34,11 @@ compare-taken-reduced w c = low-taken-reduced 3 1 0x4A w (c .condition)
 
 pub point-taken-reduced : (at : ℕ) (w : Write) (p : Point) → pointReduced p ≡ true → pointReduced (pointTaken at w p) ≡ true
 unfolding pointReduced pointTaken
-point-taken-reduced at w p = and-both (low-taken-reduced 12 2 at w (p .x)) (low-taken-reduced 12 2 (at + 2) w (p .y))
+point-taken-reduced at w p = both-kept (low-taken-reduced 12 2 at w (p .x)) (low-taken-reduced 12 2 (at + 2) w (p .y))
 
 pub spot-taken-reduced : (w : Write) (s : Spot) → spotReduced s ≡ true → spotReduced (spotTaken w s) ≡ true
 unfolding spotReduced spotTaken
-spot-taken-reduced w s = and-both (destination-taken-reduced 0x78 w (s .x)) (destination-taken-reduced 0x7A w (s .y))
+spot-taken-reduced w s = both-kept (destination-taken-reduced 0x78 w (s .x)) (destination-taken-reduced 0x7A w (s .y))
 
 -- ---- what the write does not touch stays
 

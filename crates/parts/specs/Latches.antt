@@ -8,7 +8,7 @@ use Rattle.numbers.specs.Bytes.{latched, low}
 use Rattle.numbers.specs.Circles.{residue, circle}
 use Rattle.numbers.specs.declared.bytes.Write.{Write}
 
--- whether the write covers some byte of a register of n bytes at this offset
+-- 01, Registers: whether the write, of at least one byte, covers some byte of a register of n bytes at this offset
 unfoldable pub touched : ℕ → ℕ → Write → Bool
 touched n at w = ltb (w .offset) (at + n) && ltb at (w .offset + w .length)
 

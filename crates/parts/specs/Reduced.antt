@@ -17,6 +17,7 @@ mapReduced m = ltb (m .width) 4096 && ltb (m .height) 4096 && ltb (m .format) 16
 unfoldable pub termReduced : ℤ → Bool
 termReduced z = leZ (negsuc 8191) z && ltZ z (pos 8192)
 
+-- 01, Registers: E, K1 and K2
 unfoldable pub termsReduced : Terms → Bool
 termsReduced t = termReduced (t .e) && termReduced (t .k1) && termReduced (t .k2)
 
@@ -32,5 +33,6 @@ pointReduced p = ltb (p .x) 4096 && ltb (p .y) 4096
 unfoldable pub destinationReduced : ℤ → Bool
 destinationReduced z = leZ (negsuc 2047) z && ltZ z (pos 6144)
 
+-- 01, Registers: destination X and Y
 unfoldable pub spotReduced : Spot → Bool
 spotReduced s = destinationReduced (s .x) && destinationReduced (s .y)

@@ -19,7 +19,7 @@ numberOf Size = 9
 numberOf Image = 10
 numberOf Beyond = 11
 
--- whether the call is accepted
+-- 01, Numbers a call answers with: none
 abbrev pub isAccepted : Refusal → Bool
 isAccepted Accepted = true
 isAccepted Place = false

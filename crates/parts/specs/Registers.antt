@@ -4,7 +4,7 @@ use mathlib.Core.Bool.{Bool, true, false, _&&_, _||_}
 use mathlib.Core.List.{List, [], _∷_}
 use lib.Dec.{leb, ltb, eqb}
 
--- a register's offset and bytes
+-- 01, Registers: a register's offset, and how many bytes it has
 pub record Register : Type 0 where
   pub at : ℕ
   pub bytes : ℕ
@@ -42,7 +42,7 @@ registers =
     ∷ record { at = 0x7C; bytes = 4 }
     ∷ []
 
--- whether one of these registers has the byte at this offset
+-- 01, refusal 3: whether one of these registers has the byte at this offset
 unfoldable pub among : List Register → ℕ → Bool
 among [] offset = false
 among (r ∷ rs) offset = (leb (r .at) offset && ltb offset (r .at + r .bytes)) || among rs offset

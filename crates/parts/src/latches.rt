@@ -5,6 +5,7 @@ use numbers::bytes;
 use numbers::bytes::Write;
 use numbers::circles;
 ghost use mathlib.Core.Path.{_≡_};
+ghost use Prim.Native.Nat.{_≤_};
 ghost use Rattle.parts.specs.Latches.{touched, taken, takenLow, takenTerm, takenDestination};
 
 // Whether a write, of at least one byte, covers some byte of a register of so many bytes at offset `at`.
@@ -31,34 +32,13 @@ pub fn take_byte(stored: u8, at: u8, w: Write) -> u8
     }
 }
 
-// A register of one byte that is reduced to 2 bits.
-pub fn take_two_bits(stored: u8, at: u8, w: Write) -> u8
-    ensures { λ r. ⌜ r ≡ takenLow 2 1 at w stored ⌝ }
+// A register of one byte that is reduced to so many bits.
+pub fn take_bits(bits: u32, stored: u8, at: u8, w: Write) -> u8
+    requires { ⌜ bits ≤ 8 ⌝ }
+    ensures { λ r. ⌜ r ≡ takenLow bits 1 at w stored ⌝ }
 {
     if touches(1, at, w) {
-        bytes::two_bits(bytes::latch1(stored, at, w) as u32)
-    } else {
-        stored
-    }
-}
-
-// A register of one byte that is reduced to 3 bits.
-pub fn take_three_bits(stored: u8, at: u8, w: Write) -> u8
-    ensures { λ r. ⌜ r ≡ takenLow 3 1 at w stored ⌝ }
-{
-    if touches(1, at, w) {
-        bytes::three_bits(bytes::latch1(stored, at, w) as u32)
-    } else {
-        stored
-    }
-}
-
-// A register of one byte that is reduced to 4 bits.
-pub fn take_four_bits(stored: u8, at: u8, w: Write) -> u8
-    ensures { λ r. ⌜ r ≡ takenLow 4 1 at w stored ⌝ }
-{
-    if touches(1, at, w) {
-        bytes::four_bits(bytes::latch1(stored, at, w) as u32)
+        bytes::low_bits(bits, bytes::latch1(stored, at, w))
     } else {
         stored
     }

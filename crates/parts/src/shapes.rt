@@ -54,7 +54,7 @@ pub fn latch_map(map: Map, w: Write) -> Map
         base: latches::take_word(map.base, MAP_BASE, w),
         width: latches::take_twelve_bits(map.width, MAP_WIDTH, w),
         height: latches::take_twelve_bits(map.height, MAP_HEIGHT, w),
-        format: latches::take_four_bits(map.format, MAP_FORMAT, w),
+        format: latches::take_bits(4, map.format, MAP_FORMAT, w),
     }
 }
 
@@ -94,7 +94,7 @@ pub fn latch_compare(compare: Compare, w: Write) -> Compare
     ensures { λ r. ⌜ r ≡ compareTaken w compare ⌝ }
 {
     Compare {
-        condition: latches::take_three_bits(compare.condition, COMPARE_CONDITION, w),
+        condition: latches::take_bits(3, compare.condition, COMPARE_CONDITION, w),
         value: latches::take_word(compare.value, COMPARE_VALUE, w),
     }
 }

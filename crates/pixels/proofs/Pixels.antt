@@ -10,7 +10,8 @@ use Rattle.numbers.proofs.Fields.{field-lt, field-zero, field-with-same, field-
 use Rattle.numbers.proofs.Order.{lt-or-le, eq-or-ne}
 use Rattle.pixels.specs.declared.Map.{Map}
 use Rattle.pixels.specs.Maps.{bitsOf, placeOf, shiftOf}
-use Rattle.pixels.specs.Pixels.{byteAt, foundAt, pixelAt, withPixel}
+use Rattle.pixels.specs.Pixels.{byteAt, pixelAt, withPixel}
+use Rattle.pixels.specs.Inner.{foundAt}
 use Rattle.pixels.proofs.Maps.{in-byte, shifts-apart}
 
 -- ---- a pixel

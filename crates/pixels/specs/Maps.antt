@@ -10,7 +10,7 @@ bitsOf format = 2 ^ (format % 4)
 unfoldable pub startOf : Map → ℕ → ℕ → ℕ
 startOf map x y = (y * (map .width + 1) + x) * bitsOf (map .format)
 
--- the byte of memory in which that bit lies
+-- 01, Maps and pointers: the byte of memory in which that bit lies
 unfoldable pub placeOf : Map → ℕ → ℕ → ℕ
 placeOf map x y = map .base + startOf map x y / 8
 

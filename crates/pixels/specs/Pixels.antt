@@ -4,17 +4,11 @@ use mathlib.Core.List.{List}
 use lib.ListN.{getD, set}
 use Rattle.numbers.specs.Fields.{field, withField}
 use Rattle.pixels.specs.declared.Map.{Map}
-use Rattle.pixels.specs.declared.Found.{Found}
 use Rattle.pixels.specs.Maps.{bitsOf, placeOf, shiftOf}
 
 -- docs/DECISIONS.md, 20: the byte in which pixel (x, y) lies, 0 beyond the memory
 unfoldable pub byteAt : List ℕ → Map → ℕ → ℕ → ℕ
 byteAt memory map x y = getD memory (placeOf map x y) 0
-
--- the bits of pixel (x, y) in that byte
-unfoldable pub foundAt : List ℕ → Map → ℕ → ℕ → Found
-foundAt memory map x y =
-    record { at = placeOf map x y; byte = byteAt memory map x y; shift = shiftOf map x y; bits = bitsOf (map .format) }
 
 -- 01, Maps and pointers: pixel (x, y)
 unfoldable pub pixelAt : List ℕ → Map → ℕ → ℕ → ℕ

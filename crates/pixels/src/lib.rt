@@ -5,7 +5,8 @@ ghost use Prim.Native.Nat.{_+_, _*_, _-_, _^_, _≤_};
 ghost use lib.ListN.{getD, set};
 ghost use Rattle.numbers.specs.Fields.{field, withField};
 ghost use Rattle.pixels.specs.Maps.{bitsOf, neededOf, placeOf, shiftOf};
-ghost use Rattle.pixels.specs.Pixels.{foundAt, pixelAt, withPixel};
+ghost use Rattle.pixels.specs.Pixels.{pixelAt, withPixel};
+ghost use Rattle.pixels.specs.Inner.{foundAt};
 
 // A pixel map: where it starts, one less than its width and height in pixels, and its format code.
 pub struct Map {

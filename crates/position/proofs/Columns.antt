@@ -47,15 +47,20 @@ module _ {z : ℤ} {origin : ℕ} (f : SFits w16 z) (h : Fits w16 origin) where
   pub placed : difference z origin ≡ z -ℤ pos origin
   placed = rw (toZ-ofZ w16 z f, toZ-ofZ w32 z (widened f), toZ-pos w32 origin (omega (arith, h .fits)))
 
-  pub read-back : toZ w32 (ofZ w32 (difference z origin)) ≡ z -ℤ pos origin
-  read-back = rw placed (toZ-ofZ w32 (z -ℤ pos origin) place-fits)
+  -- a number of 32 bits that is this place, read back
+  pub read-back : {p : ℤ} → p ≡ z -ℤ pos origin → toZ w32 (ofZ w32 p) ≡ z -ℤ pos origin
+  read-back e = rw e (toZ-ofZ w32 (z -ℤ pos origin) place-fits)
 
-  pub place-below : ltZ (toZ w32 (ofZ w32 (difference z origin))) (pos 0) ≡ true → z -ℤ pos origin ≡ negsuc (mag (z -ℤ pos origin))
-  place-below t = negative (z -ℤ pos origin) (rw read-back at t)
+  -- the same of what a call answers that is given the destination in 16 bits
+  pub answered : {p : ℤ} → p ≡ toZ w16 (ofZ w16 z) -ℤ pos origin → toZ w32 (ofZ w32 p) ≡ z -ℤ pos origin
+  answered e = read-back (rw (toZ-ofZ w16 z f) at e)
 
-  pub place-natural : ltZ (toZ w32 (ofZ w32 (difference z origin))) (pos 0) ≡ false → z -ℤ pos origin ≡ pos (mag (z -ℤ pos origin))
-  place-natural t = natural (z -ℤ pos origin) (rw read-back at t)
+  pub place-below : ltZ (z -ℤ pos origin) (pos 0) ≡ true → z -ℤ pos origin ≡ negsuc (mag (z -ℤ pos origin))
+  place-below t = negative (z -ℤ pos origin) t
 
-  pub column-fits : ltZ (toZ w32 (ofZ w32 (difference z origin))) (pos 0) ≡ false → mag (z -ℤ pos origin) < 2 ^ 16
+  pub place-natural : ltZ (z -ℤ pos origin) (pos 0) ≡ false → z -ℤ pos origin ≡ pos (mag (z -ℤ pos origin))
+  place-natural t = natural (z -ℤ pos origin) t
+
+  pub column-fits : ltZ (z -ℤ pos origin) (pos 0) ≡ false → mag (z -ℤ pos origin) < 2 ^ 16
   unfolding columnOf
   column-fits t = omega (arith, ap columnOf (place-natural t), column-le z origin, f .sfits)

@@ -1,4 +1,3 @@
-pub mod Choices
 pub mod Columns
 pub mod Examples
 pub mod Safety

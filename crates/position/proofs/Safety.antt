@@ -1,10 +1,11 @@
 -- A safe position keeps within the memory, and so do all after it: a pixel of a map lies before the map's end, and no move takes a used pointer out of its map.
 use mathlib.Core.Path.{_≡_, refl}
-use mathlib.Core.Bool.{Bool, true, false, not, _&&_, _||_}
+use mathlib.Core.Bool.{Bool, true, false, not, _&&_, _||_, and-eq-true-iff}
 use Prim.Native.Nat.{ℕ, _+_, _≤_}
 use native.Mathlib.Omega.{arith}
 use lib.Dec.{leb, eqb}
 use borrow.Author.Tests.{leb-true, lt-leb, eqb-true}
+use Rattle.numbers.proofs.Choices.{and-both}
 use Rattle.pixels.specs.declared.Map.{Map}
 use Rattle.pixels.specs.Maps.{placeOf, neededOf}
 use Rattle.pixels.proofs.Maps.{place-lt}
@@ -13,11 +14,10 @@ use Rattle.rules.specs.Maps.{endHolds, isInside}
 use Rattle.moves.specs.declared.Setup.{Setup}
 use Rattle.moves.specs.declared.Pen.{Pen}
 use Rattle.moves.specs.Moves.{moved}
-use Rattle.moves.proofs.Choices.{and-both}
 use Rattle.moves.proofs.Kept.{pointers-moved}
 use Rattle.position.specs.Places.{isWithin, columnOf, onMap, maskX, maskY, inMask}
-use Rattle.position.specs.Beyond.{pixelBeyond, isBeyond, isSafe}
-use Rattle.position.proofs.Choices.{both-true}
+use Rattle.position.specs.Beyond.{pixelBeyond, isBeyond}
+use Rattle.position.specs.Inner.{isSafe}
 use Rattle.position.proofs.Columns.{within-column}
 use Rattle.position.proofs.Writing.{on-map}
 
@@ -33,7 +33,7 @@ used-within : (used : Bool) (length : ℕ) (map : Map) (p : Point) → (not used
     → (used && pixelBeyond length map (p .x) (p .y)) ≡ false
 unfolding isInside
 used-within true length map p held inside =
-    let h = both-true (leb (p .x) (map .width)) _ inside in
+    let h = and-eq-true-iff (leb (p .x) (map .width)) _ .0 inside in
     held-within length map (p .x) (p .y) (leb-true _ _ (h .0)) (leb-true _ _ (h .1)) held
 used-within false length map p held inside = refl
 
@@ -47,7 +47,7 @@ module _ (s : Setup) (length : ℕ) (pen : Pen) where
       by : (t : Bool) → eqb (s .flow .mask) 2 ≡ t → (not t || endHolds length (s .mask)) ≡ true
           → (t && pixelBeyond length (s .mask) (columnOf (maskX s pen)) (columnOf (maskY s pen))) ≡ false
       by true e held =
-          let h = both-true (isWithin (s .mask .width) (maskX s pen)) _ (rw (eqb-true (s .flow .mask) 2 e) at inside) in
+          let h = and-eq-true-iff (isWithin (s .mask .width) (maskX s pen)) _ .0 (rw (eqb-true (s .flow .mask) 2 e) at inside) in
           held-within length (s .mask) _ _ (within-column _ (maskX s pen) (h .0)) (within-column _ (maskY s pen) (h .1)) held
       by false e held = refl
 
@@ -77,11 +77,11 @@ module _ (s : Setup) (length : ℕ) (pen : Pen) where
   pub safe-within : isSafe s length pen ≡ true → isBeyond s length pen ≡ false
   unfolding isSafe isBeyond
   safe-within e =
-      let parts = both-true (written && read) _ e in
-      let maps = both-true written _ (parts .0) in
-      let target = both-true (endHolds length (s .destination)) _ (maps .0) in
-      let held = both-true (not (s .flow .source) || endHolds length (s .source)) _ (maps .1) in
-      let inside = both-true (not (s .flow .source) || isInside (s .source) (pen .source)) _ (parts .1) in
+      let parts = and-eq-true-iff (written && read) _ .0 e in
+      let maps = and-eq-true-iff written _ .0 (parts .0) in
+      let target = and-eq-true-iff (endHolds length (s .destination)) _ .0 (maps .0) in
+      let held = and-eq-true-iff (not (s .flow .source) || endHolds length (s .source)) _ .0 (maps .1) in
+      let inside = and-eq-true-iff (not (s .flow .source) || isInside (s .source) (pen .source)) _ .0 (parts .1) in
       rw (
         used-within (s .flow .pattern) length (s .pattern) (pen .pattern) (held .1) (inside .1),
         used-within (s .flow .source) length (s .source) (pen .source) (held .0) (inside .0),
@@ -91,5 +91,5 @@ module _ (s : Setup) (length : ℕ) (pen : Pen) where
   pub safe-moved : isSafe s length pen ≡ true → isSafe s length (moved s pen) ≡ true
   unfolding isSafe
   safe-moved e =
-      let parts = both-true (written && read) _ e in
+      let parts = and-eq-true-iff (written && read) _ .0 e in
       and-both (written && read) _ (parts .0) (pointers-moved s pen (parts .1))

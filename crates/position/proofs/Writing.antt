@@ -1,6 +1,6 @@
 -- A position changes at most the byte of its destination pixel: of all fates only `Written` puts a pixel, and that one lies on the map.
 use mathlib.Core.Path.{_≡_, refl}
-use mathlib.Core.Bool.{Bool, true, false, not, _||_}
+use mathlib.Core.Bool.{Bool, true, false, not, _||_, and-eq-true-iff}
 use mathlib.Core.List.{List}
 use Prim.Native.Nat.{ℕ, _≤_, _<_}
 use lib.ListN.{length, getD}
@@ -11,9 +11,9 @@ use Rattle.pixels.proofs.Pixels.{length-put, byte-put-other, byte-put-lt}
 use Rattle.moves.specs.declared.Setup.{Setup}
 use Rattle.moves.specs.declared.Pen.{Pen}
 use Rattle.position.specs.Places.{isWithin, columnOf, onMap, inMask, isMove, isNulled}
-use Rattle.position.specs.Fates.{Fate, Moved, Nulled, OutsideMap, OutsideMask, MaskZero, Compared, Written, onZero, isCompared, isLeftOut, fateOf}
-use Rattle.position.specs.Drawn.{mixedPixel, writtenOf, drawnBy, drawn}
-use Rattle.position.proofs.Choices.{both-true}
+use Rattle.position.specs.Fates.{Fate, Moved, Nulled, OutsideMap, OutsideMask, MaskZero, Compared, Written, onZero, isCompared, fateOf}
+use Rattle.position.specs.Drawn.{mixedPixel, drawnBy, drawn}
+use Rattle.position.specs.Inner.{isLeftOut, writtenOf}
 use Rattle.position.proofs.Columns.{within-column}
 
 -- the destination's column and row
@@ -27,7 +27,7 @@ row pen = columnOf (pen .destination .y)
 pub on-map : (s : Setup) (pen : Pen) → onMap s pen ≡ true → (column pen ≤ s .destination .width) × (row pen ≤ s .destination .height)
 unfolding onMap
 on-map s pen e =
-    let h = both-true (isWithin (s .destination .width) (pen .destination .x)) _ e in
+    let h = and-eq-true-iff (isWithin (s .destination .width) (pen .destination .x)) _ .0 e in
     (within-column _ (pen .destination .x) (h .0), within-column _ (pen .destination .y) (h .1))
 
 -- a position that is neither moved nor nulled nor outside its map is on it

@@ -1,15 +1,14 @@
 -- Whether a byte of a position lies beyond the memory.
 use Prim.Native.Nat.{ℕ}
-use mathlib.Core.Bool.{Bool, not, _&&_, _||_}
+use mathlib.Core.Bool.{Bool, _&&_, _||_}
 use lib.Dec.{leb, eqb}
 use Rattle.pixels.specs.declared.Map.{Map}
 use Rattle.pixels.specs.Maps.{placeOf}
-use Rattle.rules.specs.Maps.{endHolds, isInside}
 use Rattle.moves.specs.declared.Setup.{Setup}
 use Rattle.moves.specs.declared.Pen.{Pen}
 use Rattle.position.specs.Places.{columnOf, onMap, maskX, maskY, inMask}
 
--- the byte of pixel (x, y) lies beyond a memory of so many bytes
+-- 01, refusal 11: the byte of pixel (x, y) lies beyond a memory of so many bytes
 unfoldable pub pixelBeyond : ℕ → Map → ℕ → ℕ → Bool
 pixelBeyond length map x y = leb length (placeOf map x y)
 
@@ -21,10 +20,3 @@ isBeyond s length pen =
     || (onMap s pen && inMask s pen
     && ((eqb (s .flow .mask) 2 && pixelBeyond length (s .mask) (columnOf (maskX s pen)) (columnOf (maskY s pen)))
     || pixelBeyond length (s .destination) (columnOf (pen .destination .x)) (columnOf (pen .destination .y))))
-
--- every used map ends within a memory of so many bytes, and the source and pattern pointers lie in theirs
-unfoldable pub isSafe : Setup → ℕ → Pen → Bool
-isSafe s length pen =
-    (endHolds length (s .destination) && (not (eqb (s .flow .mask) 2) || endHolds length (s .mask)))
-    && ((not (s .flow .source) || endHolds length (s .source)) && (not (s .flow .pattern) || endHolds length (s .pattern)))
-    && ((not (s .flow .source) || isInside (s .source) (pen .source)) && (not (s .flow .pattern) || isInside (s .pattern) (pen .pattern)))

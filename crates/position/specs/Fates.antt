@@ -1,6 +1,6 @@
 -- What becomes of a position.
 use Prim.Native.Nat.{ℕ}
-use mathlib.Core.Bool.{Bool, not, _&&_, _||_}
+use mathlib.Core.Bool.{Bool, not, _&&_}
 use mathlib.Core.List.{List}
 use lib.Dec.{eqb}
 use Rattle.numbers.specs.Choose.{choose}
@@ -11,7 +11,7 @@ use Rattle.moves.specs.declared.Setup.{Setup}
 use Rattle.moves.specs.declared.Pen.{Pen}
 use Rattle.position.specs.Places.{columnOf, onMap, maskX, maskY, inMask, isMove, isNulled}
 
--- what becomes of a position; only `Written` writes
+-- docs/DECISIONS.md, 43: what becomes of a position; only `Written` writes
 pub data Fate : Type 0 where
   Moved : Fate
   Nulled : Fate
@@ -45,8 +45,3 @@ fateOf s memory pen =
     (choose (onZero s memory pen) MaskZero
     (choose (isCompared s memory pen) Compared
     Written)))))
-
--- all of these but the last, which alone looks at the destination pixel
-unfoldable pub isLeftOut : Setup → List ℕ → Pen → Bool
-isLeftOut s memory pen =
-    isMove s (pen .drawing) || isNulled s (pen .drawing) || not (onMap s pen) || not (inMask s pen) || onZero s memory pen

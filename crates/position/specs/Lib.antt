@@ -2,3 +2,4 @@ pub mod Places
 pub mod Fates
 pub mod Drawn
 pub mod Beyond
+pub mod Inner

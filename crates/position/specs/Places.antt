@@ -14,7 +14,7 @@ unfoldable pub isWithin : ℕ → ℤ → Bool
 isWithin last (pos n) = leb n last
 isWithin last (negsuc n) = false
 
--- a place that is within, as a column or row
+-- 01, One position: a place that is within, as a column or row; 0 for one below 0, which no rule asks
 unfoldable pub columnOf : ℤ → ℕ
 columnOf (pos n) = n
 columnOf (negsuc n) = 0
@@ -23,10 +23,11 @@ columnOf (negsuc n) = 0
 unfoldable pub onMap : Setup → Pen → Bool
 onMap s pen = isWithin (s .destination .width) (pen .destination .x) && isWithin (s .destination .height) (pen .destination .y)
 
--- docs/DECISIONS.md, 14: the mask pixel is (destination - origin)
+-- docs/DECISIONS.md, 14: the mask pixel is (destination - origin); its column
 unfoldable pub maskX : Setup → Pen → ℤ
 maskX s pen = pen .destination .x -ℤ pos (s .origin .x)
 
+-- docs/DECISIONS.md, 14: and its row
 unfoldable pub maskY : Setup → Pen → ℤ
 maskY s pen = pen .destination .y -ℤ pos (s .origin .y)
 

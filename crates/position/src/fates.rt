@@ -1,7 +1,8 @@
 ghost use mathlib.Core.Path.{_≡_};
 ghost use Rattle.pixels.specs.Maps.{bitsOf};
 ghost use Rattle.mixes.specs.Conditions.{conditionHolds};
-ghost use Rattle.position.specs.Fates.{onZero, isLeftOut};
+ghost use Rattle.position.specs.Fates.{onZero};
+ghost use Rattle.position.specs.Inner.{isLeftOut};
 use crate::places::in_mask;
 use crate::places::is_move;
 use crate::places::is_nulled;

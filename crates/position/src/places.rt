@@ -8,11 +8,18 @@ use parts::reduced::both;
 use parts::shapes::Point;
 use rules::starts::code_at;
 
-// Whether a destination, counted from an origin, lies from 0 to the last column or row; both edges are inside.
+// A destination, counted from an origin.
+fn place_from(origin: u16, z: i16) -> i32
+    ensures { λ r. ⌜ r ≡ z -ℤ pos origin ⌝ }
+{
+    z as i32 - origin as i32
+}
+
+// Whether that place lies from 0 to the last column or row; both edges are inside.
 fn is_within(origin: u16, last: u16, z: i16) -> bool
     ensures { λ r. ⌜ r ≡ isWithin last (z -ℤ pos origin) ⌝ }
 {
-    let place = z as i32 - origin as i32;
+    let place = place_from(origin, z);
     if place < 0 {
         false
     } else {
@@ -24,7 +31,7 @@ fn is_within(origin: u16, last: u16, z: i16) -> bool
 fn column_of(origin: u16, z: i16) -> u16
     ensures { λ r. ⌜ r ≡ columnOf (z -ℤ pos origin) ⌝ }
 {
-    let place = z as i32 - origin as i32;
+    let place = place_from(origin, z);
     if place < 0 { 0 } else { place as u16 }
 }
 

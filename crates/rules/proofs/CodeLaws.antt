@@ -8,10 +8,10 @@ use native.Mathlib.Numerals.{add-one}
 use native.Mathlib.Omega.{arith}
 use lib.Dec.{eqb}
 use borrow.Author.Tests.{eq-eqb, ne-eqb, not-true}
+use Rattle.numbers.proofs.Choices.{and-left, and-right}
 use Rattle.rules.specs.Starts.{codeAt}
 use Rattle.rules.specs.Going.{noneStopped}
 use Rattle.rules.specs.Totals.{codesFrom}
-use Rattle.rules.proofs.Conjunctions.{and-l, and-r}
 
 module _ (steps count : ℕ) where
   -- ---- none is 00
@@ -22,11 +22,11 @@ module _ (steps count : ℕ) where
 
   pub none-stopped-before : (i : ℕ) → noneStopped steps count (suc i) ≡ true → noneStopped steps count i ≡ true
   unfolding noneStopped
-  none-stopped-before i h = search and-l
+  none-stopped-before i h = search and-left
 
   pub code-going : (i : ℕ) → noneStopped steps count (suc i) ≡ true → eqb (codeAt steps count i) 0 ≡ false
   unfolding noneStopped
-  code-going i h = not-true _ (search and-r)
+  code-going i h = not-true _ (search and-right)
 
   pub code-stopping : (i n : ℕ) → i < n → codeAt steps count i ≡ 0 → noneStopped steps count n ≡ false
   unfolding noneStopped

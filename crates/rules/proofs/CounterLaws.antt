@@ -5,12 +5,12 @@ use Prim.Native.Nat.{ℕ, zero, suc, _%_, _≤_, _<_, zero-le}
 use native.Mathlib.Omega.{arith}
 use lib.Dec.{eqb}
 use borrow.Author.Tests.{le-leb, lt-ltb, leb-true, ltb-true}
+use Rattle.numbers.proofs.Choices.{and-left, and-right}
 use Rattle.parts.specs.declared.shapes.Point.{Point}
 use Rattle.parts.specs.declared.drawing.Drawing.the-variants.{Line, Codes, Block}
 use Rattle.rules.specs.Operations.{isLine, isCodes, isBlock, draws}
 use Rattle.rules.specs.Starts.{codeAt, drawingStarted}
 use Rattle.rules.specs.Going.{noneStopped, countersHold}
-use Rattle.rules.proofs.Conjunctions.{and-l, and-r}
 use Rattle.rules.proofs.StartLaws.{by-start}
 
 -- ---- the facts of each kind
@@ -39,7 +39,7 @@ some (suc n) h = omega arith
 module _ (operations : ℕ) (dimensions : Point) (steps : ℕ) where
   pub line-held : (done : ℕ) → countersHold operations dimensions steps (Line done) ≡ true → LineHeld operations dimensions done
   unfolding countersHold
-  line-held done h = record { function = search and-l; within = leb-true _ _ (search and-r) }
+  line-held done h = record { function = search and-left; within = leb-true _ _ (search and-right) }
 
   pub line-holds : (done : ℕ) → LineHeld operations dimensions done → countersHold operations dimensions steps (Line done) ≡ true
   unfolding countersHold
@@ -49,7 +49,7 @@ module _ (operations : ℕ) (dimensions : Point) (steps : ℕ) where
   unfolding countersHold
   codes-held count code done h =
       record
-      { function = search and-l; counted = search (and-l, and-r); before = ltb-true _ _ (search (and-l, and-r)); going = search (and-l, and-r); within = leb-true _ _ (search and-r) }
+      { function = search and-left; counted = search (and-left, and-right); before = ltb-true _ _ (search (and-left, and-right)); going = search (and-left, and-right); within = leb-true _ _ (search and-right) }
 
   pub codes-hold : (count code done : ℕ) → CodesHeld operations steps count code done → countersHold operations dimensions steps (Codes count code done) ≡ true
   unfolding countersHold
@@ -58,7 +58,7 @@ module _ (operations : ℕ) (dimensions : Point) (steps : ℕ) where
   pub block-held : (column row : ℕ) → countersHold operations dimensions steps (Block column row) ≡ true → BlockHeld operations dimensions column row
   unfolding countersHold
   block-held column row h =
-      record { function = search and-l; across = leb-true _ _ (search (and-l, and-r)); down = leb-true _ _ (search and-r) }
+      record { function = search and-left; across = leb-true _ _ (search (and-left, and-right)); down = leb-true _ _ (search and-right) }
 
   pub block-holds : (column row : ℕ) → BlockHeld operations dimensions column row → countersHold operations dimensions steps (Block column row) ≡ true
   unfolding countersHold

@@ -1,4 +1,3 @@
-pub mod Conjunctions
 pub mod MapLaws
 pub mod PointerLaws
 pub mod RefusalLaws

@@ -7,6 +7,7 @@ use native.Mathlib.Nat.{mod-lt, mod-le, mod-eq-of-lt, lt-of-le-of-lt}
 use native.Mathlib.Omega.{arith}
 use borrow.Author.Tests.{le-leb, lt-ltb, leb-true, ltb-true}
 use Rattle.numbers.specs.Choose.{choose}
+use Rattle.numbers.proofs.Choices.{choose-either, and-left, and-right}
 use Rattle.pixels.specs.declared.Map.{Map}
 use Rattle.parts.specs.declared.shapes.Point.{Point}
 use Rattle.parts.specs.Reduced.{pointReduced}
@@ -14,7 +15,6 @@ use Rattle.rules.specs.Operations.{sourceField, patternField, usesSource
 use Rattle.rules.specs.Maps.{mapAt, isInside}
 use Rattle.rules.specs.Starts.{turned, sourceStarted, patternStarted}
 use Rattle.rules.specs.Going.{pointersHold}
-use Rattle.rules.proofs.Conjunctions.{and-l, and-r}
 
 -- ---- one coordinate
 
@@ -37,12 +37,12 @@ module _ (map : Map) (p : Point) where
   pub turned-inside : isInside map p ≡ true → turned map p ≡ p
   unfolding isInside turned
   turned-inside h =
-      rw (remainder-self _ _ (leb-true (p .x) (map .width) (search (and-l, and-r))), remainder-self _ _ (leb-true (p .y) (map .height) (search (and-l, and-r))))
+      rw (remainder-self _ _ (leb-true (p .x) (map .width) (search (and-left, and-right))), remainder-self _ _ (leb-true (p .y) (map .height) (search (and-left, and-right))))
 
   pub turned-reduced : pointReduced p ≡ true → pointReduced (turned map p) ≡ true
   unfolding pointReduced turned
   turned-reduced h =
-      rw (lt-ltb _ _ (remainder-lt (p .x) (map .width) 4096 (ltb-true _ _ (search (and-l, and-r)))), lt-ltb _ _ (remainder-lt (p .y) (map .height) 4096 (ltb-true _ _ (search (and-l, and-r)))))
+      rw (lt-ltb _ _ (remainder-lt (p .x) (map .width) 4096 (ltb-true _ _ (search (and-left, and-right)))), lt-ltb _ _ (remainder-lt (p .y) (map .height) 4096 (ltb-true _ _ (search (and-left, and-right)))))
 
 -- ---- the pointers at a start
 
@@ -51,21 +51,16 @@ chosen : {A : Type 0} (holds : A → Bool) (asked : Bool) (a b : A) → holds a 
 chosen holds true a b h = h
 chosen holds false a b h = refl
 
--- what holds of both holds of the chosen one
-either : {A : Type 0} (holds : A → Bool) (asked : Bool) (a b : A) → holds a ≡ true → holds b ≡ true → holds (choose asked a b) ≡ true
-either holds true a b h k = h
-either holds false a b h k = k
-
 module _ (operations : ℕ) (maps : List Map) (p : Point) where
   pub source-started-reduced : pointReduced p ≡ true → pointReduced (sourceStarted operations maps p) ≡ true
   unfolding sourceStarted
   source-started-reduced h =
-      either pointReduced (usesSource operations) _ p (turned-reduced (mapAt maps (sourceField operations)) p h) h
+      choose-either (λ (q : Point). pointReduced q ≡ true) (usesSource operations) (turned-reduced (mapAt maps (sourceField operations)) p h) h
 
   pub pattern-started-reduced : pointReduced p ≡ true → pointReduced (patternStarted operations maps p) ≡ true
   unfolding patternStarted
   pattern-started-reduced h =
-      either pointReduced (usesPattern operations) _ p (turned-reduced (mapAt maps (patternField operations)) p h) h
+      choose-either (λ (q : Point). pointReduced q ≡ true) (usesPattern operations) (turned-reduced (mapAt maps (patternField operations)) p h) h
 
   pub pointers-started : (q : Point) → pointersHold operations maps (sourceStarted operations maps p) (patternStarted operations maps q) ≡ true
   unfolding pointersHold sourceStarted patternStarted

@@ -1,17 +1,13 @@
 -- A start sets one of four drawings, by its tests in their order.
-use mathlib.Core.Path.{_≡_, refl}
-use mathlib.Core.Bool.{Bool, true, false}
+use mathlib.Core.Path.{_≡_}
+use mathlib.Core.Bool.{true, false}
 use Prim.Native.Nat.{ℕ}
 use lib.Dec.{eqb}
-use Rattle.numbers.specs.Choose.{choose}
+use Rattle.numbers.proofs.Choices.{by-test}
 use Rattle.parts.specs.declared.drawing.Drawing.{Drawing}
 use Rattle.parts.specs.declared.drawing.Drawing.the-variants.{Nothing, Line, Codes, Block}
 use Rattle.rules.specs.Operations.{isLine, isBlock}
 use Rattle.rules.specs.Starts.{codeAt, drawingStarted}
-
-by-test : {A : Type 0} (P : A → Type 0) (test : Bool) {a b : A} → (test ≡ true → P a) → (test ≡ false → P b) → P (choose test a b)
-by-test P true p q = p refl
-by-test P false p q = q refl
 
 -- what holds of each drawing that a start can set holds of the one that it sets
 pub by-start : (P : Drawing → Type 0) (operations steps length : ℕ) → (isLine operations ≡ true → P (Line 0)) → (isBlock operations ≡ true → P (Block 0 0))

@@ -20,11 +20,11 @@ turned map p = record { x = p .x % (map .width + 1); y = p .y % (map .height + 1
 unfoldable pub sourceStarted : ℕ → List Map → Point → Point
 sourceStarted operations maps p = choose (usesSource operations) (turned (mapAt maps (sourceField operations)) p) p
 
--- the same for the pattern pointer
+-- 01, Maps and pointers: the same for the pattern pointer
 unfoldable pub patternStarted : ℕ → List Map → Point → Point
 patternStarted operations maps p = choose (usesPattern operations) (turned (mapAt maps (patternField operations)) p) p
 
--- 01, Registers: code i of the count codes in the starting write, lowest byte first; they are the register's highest bytes
+-- 01, Registers: code i of the count codes in the starting write, lowest byte first; docs/DECISIONS.md, 15: they are the register's highest bytes
 unfoldable pub codeAt : ℕ → ℕ → ℕ → ℕ
 codeAt steps count i = byteOf steps (4 - count + i)
 

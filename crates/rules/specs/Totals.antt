@@ -20,7 +20,7 @@ totalOf dimensions steps (Line done) = dimensions .x + 1
 totalOf dimensions steps (Codes count code done) = codesFrom steps count 0 count
 totalOf dimensions steps (Block column row) = (dimensions .y + 1) * (dimensions .x + 1)
 
--- the positions left at the counters
+-- 01, State image: the positions left at the counters
 unfoldable pub leftOf : Point → ℕ → Drawing → ℕ
 leftOf dimensions steps (Nothing stopped) = 0
 leftOf dimensions steps (Line done) = dimensions .x + 1 - done

@@ -12,14 +12,14 @@ use Rattle.moves.specs.Moves.{moved, penWith}
 use Rattle.position.specs.Drawn.{drawn}
 use Rattle.position.specs.Beyond.{isBeyond}
 
--- a run under way: the pen, the memory, the positions done, and whether one lay beyond the memory
+-- docs/DECISIONS.md, 30: a run under way: the pen, the memory, the positions done, and whether one lay beyond the memory
 pub record Run : Type 0 where
   pub pen : Pen
   pub memory : List ℕ
   pub done : ℕ
   pub beyond : Bool
 
--- nothing done yet
+-- docs/DECISIONS.md, 30: nothing done yet
 unfoldable pub begun : Pen → List ℕ → Run
 begun pen memory = record { pen = pen; memory = memory; done = 0; beyond = false }
 
@@ -32,7 +32,7 @@ positioned s t =
 unfoldable pub ended : Run → Run
 ended t = record { pen = penWith (Nothing false) (t .pen); memory = t .memory; done = t .done; beyond = true }
 
--- 01, The functions: one position, if one is left
+-- 01, The functions: one position, if one is left; 01, refusal 11: the end, where a byte of it lies beyond the memory
 unfoldable pub stepped : Setup → Run → Run
 stepped s t =
     choose (unfinished (t .pen .drawing))

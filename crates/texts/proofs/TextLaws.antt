@@ -1,6 +1,5 @@
 -- Text laid into a buffer piece by piece: what is laid after a piece goes on from the piece's end.
 use mathlib.Core.Path.{_≡_, refl, sym, ap, _∙_}
-use mathlib.Core.Bool.{Bool, true, false}
 use mathlib.Core.List.{List, [], _∷_, _++_, append-nil, append-assoc}
 use Prim.Native.Nat.{ℕ, zero, suc, _+_, _-_, _*_, _/_, _%_, _≤_, _<_, zero-le, suc-le-suc}
 use native.Mathlib.Nat.{add-zero, add-suc, suc-add}
@@ -10,7 +9,7 @@ use lib.ListN.{length, getD, set, drop, length-append, drop-of-length-le}
 use lib.Seq.{sets, sets-eq, drop-cons, length-take-le}
 use lib.Dec.{ltb}
 use borrow.Author.Tests.{lt-ltb, le-ltb}
-use Rattle.numbers.specs.Choose.{choose}
+use Rattle.numbers.proofs.Choices.{choose-either}
 use Rattle.texts.specs.Texts.{decimal, numbered, Counted, byteText, bytesText, memoryText}
 
 -- one byte more is laid
@@ -46,16 +45,12 @@ unfolding decimal
 decimal-more zero n some large = absurd (some refl)
 decimal-more (suc places) n some large = rw (le-ltb n 10 large, one-less places)
 
-shorter : (t : Bool) (a b : List ℕ) (n : ℕ) → length a ≤ n → length b ≤ n → length (choose t a b) ≤ n
-shorter true a b n first second = first
-shorter false a b n first second = second
-
 pub decimal-length : (places n : ℕ) → length (decimal places n) ≤ places
 unfolding decimal
 decimal-length zero n = zero-le
 decimal-length (suc places) n =
     let less : length (decimal places (n / 10)) ≤ places = decimal-length places (n / 10) in
-    shorter (ltb n 10) _ _ (suc places) (suc-le-suc zero-le) (rw (length-append (decimal places (n / 10)) ((48 + n % 10) ∷ [])) (omega arith))
+    choose-either (λ (s : List ℕ). length s ≤ suc places) (ltb n 10) (suc-le-suc zero-le) (rw (length-append (decimal places (n / 10)) ((48 + n % 10) ∷ [])) (omega arith))
 
 -- ---- a word, a number and what follows it
 

@@ -8,31 +8,32 @@ use Rattle.numbers.specs.Choose.{choose}
 use Rattle.texts.specs.declared.Answer.{Answer}
 use Rattle.texts.specs.declared.Answer.the-variants.{Done, Refused, Nothing, Neither}
 
--- n in decimal, by at most so many digits
+-- 01, the bench program: n in decimal, by at most so many digits
 unfoldable pub decimal : ℕ → ℕ → List ℕ
 decimal zero n = []
 decimal (suc places) n = choose (ltb n 10) ((48 + n) ∷ []) (decimal places (n / 10) ++ ((48 + n % 10) ∷ []))
 
--- a word, a number and what follows it
+-- 01, the bench program: a word, a number and what follows it
 unfoldable pub numbered : List ℕ → ℕ → List ℕ → List ℕ
 numbered before n after = before ++ decimal 20 n ++ after
 
--- "ok "
+-- 01, the bench program: "ok "
 abbrev pub okay : List ℕ
 okay = 0x6F ∷ 0x6B ∷ 0x20 ∷ []
 
--- "no "
+-- 01, the bench program: "no "
 abbrev pub no : List ℕ
 no = 0x6E ∷ 0x6F ∷ 0x20 ∷ []
 
--- "line "
+-- docs/DECISIONS.md, 44: "line "
 abbrev pub line : List ℕ
 line = 0x6C ∷ 0x69 ∷ 0x6E ∷ 0x65 ∷ 0x20 ∷ []
 
--- ": not a call" and a newline
+-- docs/DECISIONS.md, 44: ": not a call" and a newline
 abbrev pub unread : List ℕ
 unread = 0x3A ∷ 0x20 ∷ 0x6E ∷ 0x6F ∷ 0x74 ∷ 0x20 ∷ 0x61 ∷ 0x20 ∷ 0x63 ∷ 0x61 ∷ 0x6C ∷ 0x6C ∷ 0x0A ∷ []
 
+-- 01, the bench program: each line prints a line
 abbrev pub newline : List ℕ
 newline = 0x0A ∷ []
 
@@ -43,7 +44,7 @@ answerText (Refused number) at = numbered no number newline
 answerText Nothing at = []
 answerText Neither at = numbered line at unread
 
--- so many bytes at the start, as a caller asks that takes them
+-- 01, the bench program: so many bytes at the start are the text, as a caller asks that takes them
 abbrev pub Counted : ℕ → List ℕ → Type 0
 Counted n bytes = (n ≤ length bytes) × (n ≡ length (take n bytes))
 
@@ -55,11 +56,11 @@ hexDigit digit = choose (ltb digit 10) (48 + digit) (55 + digit)
 unfoldable pub separatorOf : ℕ → ℕ
 separatorOf i = choose (eqb (i % 16) 15) 10 32
 
--- the byte of this number in hex, with what follows it
+-- 01, the bench program: the byte of this number in hex, with what follows it
 unfoldable pub byteText : ℕ → ℕ → List ℕ
 byteText i byte = hexDigit (byte / 16) ∷ hexDigit (byte % 16) ∷ separatorOf i ∷ []
 
--- these bytes in hex, of which the first has this number
+-- 01, the bench program: these bytes in hex, of which the first has this number
 unfoldable pub bytesText : ℕ → List ℕ → List ℕ
 bytesText i [] = []
 bytesText i (byte ∷ bytes) = byteText i byte ++ bytesText (suc i) bytes

@@ -2,21 +2,21 @@
 use mathlib.Core.Path.{_≡_, refl, sym, _∙_}
 use mathlib.Core.Bool.{Bool, true, false, not, _&&_, _||_, false≢true}
 use Rattle.numbers.specs.Choose.{choose}
+use Rattle.numbers.specs.Bytes.{covers}
 use Rattle.numbers.specs.declared.bytes.Write.{Write}
+use Rattle.numbers.proofs.Choices.{by-test}
 use Rattle.parts.specs.declared.refusals.Refusal.{Refusal}
 use Rattle.parts.specs.Refusals.{isAccepted}
 use Rattle.parts.specs.Drawings.{unfinished}
-use Rattle.parts.specs.Latches.{touched}
 use Rattle.parts.specs.Registers.{placed, listed}
 use Rattle.rules.specs.Operations.{isLine, isCodes, isBlock, draws}
 use borrow.Author.Tests.{not-true, not-false}
 use Rattle.coprocessor.specs.declared.Coprocessor.{Coprocessor}
 use Rattle.coprocessor.specs.Valid.{startRefusalOf, validOf}
-use Rattle.coprocessor.specs.Writes.{merged, startsBy, started, startedRefusal, storeRefusal, writeRefusal, settledBy, writeAnswer}
-use Rattle.theorems.proofs.Choices.{by-test}
+use Rattle.coprocessor.specs.Writes.{stored, startsBy, started, startedRefusal, writeRefusal, settledBy, writeAnswer}
 
 -- a refusal that comes first is not there where the whole is accepted, and the rest is accepted
-passed : (t : Bool) (first rest : Refusal) → (t ≡ true → isAccepted first ≡ false) → isAccepted (choose t first rest) ≡ true
+pub passed : (t : Bool) (first rest : Refusal) → (t ≡ true → isAccepted first ≡ false) → isAccepted (choose t first rest) ≡ true
     → (t ≡ false) × (isAccepted rest ≡ true)
 passed true first rest refused e = absurd (false≢true (sym (refused refl) ∙ e))
 passed false first rest refused e = (refl, e)
@@ -27,17 +27,17 @@ module _ (w : Write) (c : Coprocessor) where
     pub place : placed (w .offset) (w .length) ≡ true
     pub idle : unfinished (c .drawing) ≡ false
     pub registers : listed (w .length) (w .offset) ≡ true
-    pub rules : isAccepted (startedRefusal w (merged w c)) ≡ true
+    pub rules : isAccepted (startedRefusal w (stored w c)) ≡ true
     pub valid : validOf c ≡ true
 
   pub accepted-allowed : isAccepted (writeRefusal w c) ≡ true → Allowed
-  unfolding storeRefusal writeRefusal
+  unfolding writeRefusal
   accepted-allowed e =
       let place = passed (not (placed (w .offset) (w .length))) _ _ (λ t. refl) e in
       let idle = passed (unfinished (c .drawing)) _ _ (λ t. refl) (place .1) in
       let registers = passed (not (listed (w .length) (w .offset))) _ _ (λ t. refl) (idle .1) in
-      let function = passed (touched 1 0x7F w && not (draws (merged w c .operations))) _ _ (λ t. refl) (registers .1) in
-      let rules = passed (not (isAccepted (startedRefusal w (merged w c)))) _ _ (not-true _) (function .1) in
+      let function = passed (covers w 0x7F && not (draws (stored w c .operations))) _ _ (λ t. refl) (registers .1) in
+      let rules = passed (not (isAccepted (startedRefusal w (stored w c)))) _ _ (not-true _) (function .1) in
       let valid = passed (not (validOf c)) _ _ (λ t. refl) (rules .1) in
       record
       { place = not-false _ (place .0); idle = idle .0; registers = not-false _ (registers .0); rules = not-false _ (rules .0); valid = not-false _ (valid .0) }
@@ -57,7 +57,7 @@ some-function false false false false false e = e
 pub start-draws : (w : Write) (c : Coprocessor) → startsBy w c ≡ true → draws (c .operations) ≡ true
 unfolding startsBy draws
 start-draws w c =
-    some-function (touched 1 0x7F w) (touched 1 0x2F w) (isLine (c .operations)) (isCodes (c .operations)) (isBlock (c .operations))
+    some-function (covers w 0x7F) (covers w 0x2F) (isLine (c .operations)) (isCodes (c .operations)) (isBlock (c .operations))
 
 pub start-rules : (w : Write) (c : Coprocessor) → isAccepted (startedRefusal w c) ≡ true → startsBy w c ≡ true → isAccepted (startRefusalOf c) ≡ true
 unfolding startedRefusal
@@ -67,9 +67,9 @@ start-rules w c e starts = rw starts at e
 
 -- what holds of the record, of the one with the write stored, and of the one with a drawing started, holds of what the write leaves
 pub by-write : (w : Write) (c : Coprocessor) (P : Coprocessor → Type 0) → (isAccepted (writeRefusal w c) ≡ false → P c)
-    → (isAccepted (writeRefusal w c) ≡ true → startsBy w (merged w c) ≡ false → P (merged w c))
-    → (isAccepted (writeRefusal w c) ≡ true → startsBy w (merged w c) ≡ true → P (started (w .length) (merged w c)))
+    → (isAccepted (writeRefusal w c) ≡ true → startsBy w (stored w c) ≡ false → P (stored w c))
+    → (isAccepted (writeRefusal w c) ≡ true → startsBy w (stored w c) ≡ true → P (started (w .length) (stored w c)))
     → P (writeAnswer w c .coprocessor)
 unfolding settledBy writeAnswer
-by-write w c P refused stored starts =
-    by-test P (isAccepted (writeRefusal w c)) (λ e. by-test P (startsBy w (merged w c)) (starts e) (stored e)) refused
+by-write w c P refused rests starts =
+    by-test P (isAccepted (writeRefusal w c)) (λ e. by-test P (startsBy w (stored w c)) (starts e) (rests e)) refused

@@ -1,6 +1,6 @@
 -- A drawing cut and carried as often as one likes ends as the uncut one: two runs in a row are one, and what is saved and loaded is the same record, so the events fold into one run, from the first on.
 use mathlib.Core.Path.{_≡_, refl, sym, ap, _∙_}
-use mathlib.Core.Bool.{Bool, true, false, _&&_}
+use mathlib.Core.Bool.{Bool, true, false, _&&_, and-true}
 use mathlib.Core.List.{List, [], _∷_}
 use Prim.Native.Nat.{ℕ, _+_}
 use native.Mathlib.Omega.{arith}
@@ -25,10 +25,6 @@ use Rattle.theorems.proofs.RunCalls.{Continued, run-accepted, accepted-
 both-accepted : (t : Bool) (first second : Refusal) → isAccepted first ≡ t → t && isAccepted second ≡ isAccepted (choose t second first)
 both-accepted true first second e = refl
 both-accepted false first second e = sym e
-
-and-true : (t : Bool) → t && true ≡ t
-and-true true = refl
-and-true false = refl
 
 module _ (c : Coprocessor) (memory : List ℕ) (held : Held c) (accepted : runRefusal c memory ≡ Accepted) where
   -- where one run of n positions leaves the drawing

@@ -6,6 +6,7 @@ use Prim.Native.Nat.{ℕ, _<_}
 use native.Mathlib.Omega.{arith}
 use lib.Dec.{eqb}
 use borrow.Author.Tests.{eq-eqb, eqb-true}
+use Rattle.numbers.proofs.Choices.{and-left, and-right}
 use Rattle.parts.specs.declared.shapes.Point.{Point}
 use Rattle.parts.specs.declared.drawing.Drawing.{Drawing}
 use Rattle.parts.specs.declared.drawing.Drawing.the-variants.{Nothing, Line, Codes, Block}
@@ -13,10 +14,10 @@ use Rattle.parts.specs.Drawings.{unfinished}
 use Rattle.parts.specs.Reduced.{pointReduced}
 use Rattle.rules.specs.Operations.{isLine, isCodes, isBlock, functionOf}
 use Rattle.rules.specs.Going.{countersHold}
-use Rattle.rules.proofs.Conjunctions.{and-l, and-r}
 use Rattle.rules.proofs.CounterLaws.{line-held, codes-held, block-held}
 use Rattle.image.specs.declared.counters.Counters.{Counters}
-use Rattle.image.specs.Counters.{countersOf, drawingOf, sameCounters}
+use Rattle.image.specs.Counters.{countersOf, drawingOf}
+use Rattle.image.specs.Inner.{sameCounters}
 use Rattle.coprocessor.proofs.PlaceLaws.{or-cases, lengths}
 use Rattle.theorems.proofs.ValidFields.{point-bounds}
 
@@ -82,8 +83,8 @@ counters-same k = rw (eq-eqb (k .state) (k .state) refl, eq-eqb (k .done) (k .do
 pub same-counters : (j k : Counters) → sameCounters j k ≡ true → j ≡ k
 unfolding sameCounters
 same-counters j k e =
-    let state = eqb-true (j .state) (k .state) (search (and-l, and-r)) in
-    let done = eqb-true (j .done) (k .done) (search (and-l, and-r)) in
-    let gone = eqb-true (j .gone) (k .gone) (search (and-l, and-r)) in
-    let count = eqb-true (j .count) (k .count) (search and-r) in
+    let state = eqb-true (j .state) (k .state) (search (and-left, and-right)) in
+    let done = eqb-true (j .done) (k .done) (search (and-left, and-right)) in
+    let gone = eqb-true (j .gone) (k .gone) (search (and-left, and-right)) in
+    let count = eqb-true (j .count) (k .count) (search and-right) in
     λ i. record { state = state i; done = done i; gone = gone i; count = count i }

@@ -16,7 +16,7 @@ use Rattle.runs.proofs.RunLaws.{after-done}
 use Rattle.coprocessor.specs.declared.Coprocessor.{Coprocessor}
 use Rattle.coprocessor.specs.declared.Drawn.{Drawn}
 use Rattle.coprocessor.specs.Valid.{validOf}
-use Rattle.coprocessor.specs.Writes.{merged, startsBy, writeRefusal, writeAnswer}
+use Rattle.coprocessor.specs.Writes.{stored, startsBy, writeRefusal, writeAnswer}
 use Rattle.coprocessor.specs.Runs.{setupOf, penOf, withPen, ranOf, runRefusal, runAnswer, runMemory}
 use Rattle.theorems.specs.Held.{Held}
 use Rattle.theorems.specs.Totals.{totalIn, leftIn}
@@ -92,7 +92,7 @@ goes-on c memory events held valid long none =
 
 -- 01, How tight the promises are, point 3, from the write that starts it: the total is fixed by the dimensions or the codes that the write leaves
 pub drawing-goes-on : (w : Write) (c : Coprocessor) (memory : List ℕ) (events : List Event) → Held c
-    → isAccepted (writeRefusal w c) ≡ true → startsBy w (merged w c) ≡ true → length memory ≡ writeAnswer w c .coprocessor .size
+    → isAccepted (writeRefusal w c) ≡ true → startsBy w (stored w c) ≡ true → length memory ≡ writeAnswer w c .coprocessor .size
     → lived events (standing (writeAnswer w c .coprocessor) memory) .accepted ≡ true
     → WentOn (writeAnswer w c .coprocessor) memory (totalIn (writeAnswer w c .coprocessor)) events (lived events (standing (writeAnswer w c .coprocessor) memory))
 drawing-goes-on w c memory events held accepted starts long none =

@@ -1,13 +1,13 @@
 -- What a drawing changes, the bounds of a record's fields do not speak of; so a run keeps them.
 use mathlib.Core.List.{List}
 use Prim.Native.Nat.{ℕ}
+use Rattle.numbers.proofs.Choices.{by-test}
 use Rattle.parts.specs.Refusals.{isAccepted}
 use Rattle.moves.specs.declared.Pen.{Pen}
 use Rattle.coprocessor.specs.declared.Coprocessor.{Coprocessor}
 use Rattle.coprocessor.specs.declared.Drawn.{Drawn}
 use Rattle.coprocessor.specs.Runs.{withPen, runRefusal, runAnswer}
 use Rattle.theorems.specs.Held.{Held}
-use Rattle.theorems.proofs.Choices.{by-test}
 
 pub held-pen : (c : Coprocessor) (pen : Pen) → Held c → Held (withPen c pen)
 unfolding withPen

@@ -12,7 +12,7 @@ use Rattle.rules.specs.Maps.{freshMap, mapAt}
 use Rattle.coprocessor.specs.declared.Coprocessor.{Coprocessor}
 use Rattle.coprocessor.specs.Fresh.{freshOf}
 use Rattle.theorems.specs.Held.{Held}
-use Rattle.coprocessor.specs.Writes.{merged, started, writeAnswer}
+use Rattle.coprocessor.specs.Writes.{stored, started, writeAnswer}
 use Rattle.theorems.proofs.AcceptedWrites.{by-write}
 use Rattle.theorems.proofs.MapsLaws.{map-either}
 use Rattle.theorems.proofs.HeldRuns.{held-pen}
@@ -34,8 +34,8 @@ held-fresh size =
       operations = lit< tt;
     }
 
-held-merged : (w : Write) (c : Coprocessor) → Held c → Held (merged w c)
-unfolding mapTaken inkTaken compareTaken merged
+held-merged : (w : Write) (c : Coprocessor) → Held c → Held (stored w c)
+unfolding mapTaken inkTaken compareTaken stored
 held-merged w c h =
     record {
       four = length-set (c .maps) _ _ ∙ h .four;
@@ -58,4 +58,4 @@ held-started length c h = held-pen c _ h
 
 pub held-written : (w : Write) (c : Coprocessor) → Held c → Held (writeAnswer w c .coprocessor)
 held-written w c h =
-    by-write w c Held (λ refused. h) (λ accepted none. held-merged w c h) (λ accepted starts. held-started (w .length) (merged w c) (held-merged w c h))
+    by-write w c Held (λ refused. h) (λ accepted none. held-merged w c h) (λ accepted starts. held-started (w .length) (stored w c) (held-merged w c h))

@@ -20,18 +20,21 @@ use Rattle.parts.specs.declared.shapes.Spot.{Spot}
 use Rattle.parts.specs.Reduced.{mapReduced, pointReduced, spotReduced, termReduced, termsReduced}
 use Rattle.parts.specs.declared.refusals.Refusal.the-variants.{Accepted}
 use Rattle.rules.specs.Maps.{mapAt}
-use Rattle.rules.proofs.Conjunctions.{and-l, and-r}
-use Rattle.image.specs.Words.{pointWord, spotWord, inksWord}
-use Rattle.image.specs.Counters.{countersOf, drawingOf, sameCounters}
+use Rattle.image.specs.Words.{pointWord, spotWord, inksWord, mapWords, termWords, colourWords, pointerWords, bankOf}
+use Rattle.image.specs.Counters.{countersOf, drawingOf}
+use Rattle.image.specs.Inner.{sameCounters}
 use Rattle.image.specs.Fields.{laid, counterFields, headFields, mapFields, mapsFields, wordFields, bankFields, fieldsBy}
 use Rattle.image.specs.Places.{at, mapFrom, inkFrom, pointFrom, spotFrom, mapsFrom, termsFrom, compareFrom, countersFrom}
 use Rattle.coprocessor.specs.declared.Coprocessor.{Coprocessor}
 use Rattle.coprocessor.specs.Valid.{validOf}
 use Rattle.coprocessor.specs.Reads.{wordsOf}
 use Rattle.coprocessor.specs.Images.{fieldsOf, imageOf, loaded, loads, saves, saved, loadAnswer}
+use Rattle.coprocessor.specs.Inner.{loadsBy}
+use Rattle.coprocessor.proofs.ImageRules.{loads-by}
 use Rattle.theorems.specs.Held.{Held}
 use Rattle.numbers.proofs.BytePartLaws.{number-low, number-part}
 use Rattle.numbers.proofs.SignedBytes.{signed-residue}
+use Rattle.numbers.proofs.Choices.{and-left, and-right}
 use Rattle.theorems.proofs.ValidFields as valid
 use Rattle.theorems.proofs.DrawingLaws.{counters-fit, drawing-counted, counters-same}
 
@@ -102,8 +105,8 @@ spot-back s e =
     let below : (z : ℤ) → residue (2 ^ 16) z < 65536 = residue-lt (2 ^ 16) (lit< tt) in
     let low = low-half (residue (2 ^ 16) (s .x)) (residue (2 ^ 16) (s .y)) (below (s .x)) (below (s .y)) in
     let high = high-half (residue (2 ^ 16) (s .x)) (residue (2 ^ 16) (s .y)) (below (s .x)) (below (s .y)) in
-    let x = ap (toZ w16) low ∙ signed-residue w16 (s .x) (valid.destination-fits (s .x) (search and-l)) in
-    let y = ap (toZ w16) high ∙ signed-residue w16 (s .y) (valid.destination-fits (s .y) (search and-r)) in
+    let x = ap (toZ w16) low ∙ signed-residue w16 (s .x) (valid.destination-fits (s .x) (search and-left)) in
+    let y = ap (toZ w16) high ∙ signed-residue w16 (s .y) (valid.destination-fits (s .y) (search and-right)) in
     λ i. record { x = x i; y = y i }
 
 term-back : (z : ℤ) → termReduced z ≡ true → toZ w32 (numberOf (take 4 (le 4 (residue (2 ^ 32) z)))) ≡ z
@@ -124,7 +127,7 @@ module _ (c : Coprocessor) (held : Held c) (v : validOf c ≡ true) where
       λ i. record { state = state i; done = done i; gone = gone i; count = count i }
 
   operations-back : at 111 4 (imageOf c) ≡ c .operations
-  unfolding at imageOf laid fieldsOf fieldsBy headFields counterFields mapsFields mapFields bankFields wordFields le wordsOf
+  unfolding at imageOf laid fieldsOf fieldsBy headFields counterFields mapsFields mapFields bankFields wordFields le wordsOf mapWords termWords colourWords pointerWords bankOf
   operations-back = number-whole 4 (c .operations) (held .operations)
 
   drawing-back : drawingOf (at 111 4 (imageOf c)) (countersFrom (imageOf c)) ≡ c .drawing
@@ -139,16 +142,16 @@ module _ (c : Coprocessor) (held : Held c) (v : validOf c ≡ true) where
       (λ i. map 0 (lit< tt) i ∷ map 1 (lit< tt) i ∷ map 2 (lit< tt) i ∷ map 3 (lit< tt) i ∷ []) ∙ four-maps (c .maps) (held .four)
 
   terms-back : termsFrom (imageOf c) ≡ c .terms
-  unfolding termsFrom at imageOf laid fieldsOf fieldsBy headFields counterFields mapsFields mapFields bankFields wordFields le wordsOf termsReduced
+  unfolding termsFrom at imageOf laid fieldsOf fieldsBy headFields counterFields mapsFields mapFields bankFields wordFields le wordsOf mapWords termWords colourWords pointerWords bankOf termsReduced
   terms-back =
       let r : termsReduced (c .terms) ≡ true = valid.terms-reduced c v in
-      let e = term-back (c .terms .e) (search (r, and-l, and-r)) in
-      let k1 = term-back (c .terms .k1) (search (r, and-l, and-r)) in
-      let k2 = term-back (c .terms .k2) (search (r, and-l, and-r)) in
+      let e = term-back (c .terms .e) (search (r, and-left, and-right)) in
+      let k1 = term-back (c .terms .k1) (search (r, and-left, and-right)) in
+      let k2 = term-back (c .terms .k2) (search (r, and-left, and-right)) in
       λ i. record { e = e i; k1 = k1 i; k2 = k2 i }
 
   pub loaded-image : loaded (imageOf c) ≡ c
-  unfolding loaded inkFrom compareFrom pointFrom spotFrom at imageOf laid fieldsOf fieldsBy headFields counterFields mapsFields mapFields bankFields wordFields le wordsOf inksWord
+  unfolding loaded inkFrom compareFrom pointFrom spotFrom at imageOf laid fieldsOf fieldsBy headFields counterFields mapsFields mapFields bankFields wordFields le wordsOf mapWords termWords colourWords pointerWords bankOf inksWord
   loaded-image =
       let index = number-whole 1 (c .index) (omega (arith, valid.index-lt c v)) in
       let mixed = c .foreground .mix in
@@ -177,11 +180,11 @@ module _ (c : Coprocessor) (held : Held c) (v : validOf c ≡ true) where
       }
 
   pub loads-image : loads (imageOf c) ≡ true
-  unfolding loads at imageOf laid fieldsOf fieldsBy headFields counterFields mapsFields mapFields bankFields wordFields le numberOf
+  unfolding loadsBy at imageOf laid fieldsOf fieldsBy headFields counterFields mapsFields mapFields bankFields wordFields le numberOf
   loads-image =
       let same : sameCounters (countersFrom (imageOf c)) (countersOf (loaded (imageOf c) .drawing)) ≡ true =
       rw (loaded-image, counters-back) (counters-same (countersOf (c .drawing))) in
-      rw (same, loaded-image, v)
+      rw (← loads-by (imageOf c), same, loaded-image, v)
 
 pub image-injective : (c d : Coprocessor) → Held c → Held d → validOf c ≡ true → validOf d ≡ true → imageOf c ≡ imageOf d → c ≡ d
 image-injective c d hc hd vc vd e = sym (loaded-image c hc vc) ∙ ap loaded e ∙ loaded-image d hd vd

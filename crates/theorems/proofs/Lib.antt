@@ -1,4 +1,3 @@
-pub mod Choices
 pub mod AcceptedWrites
 pub mod MapsLaws
 pub mod Refused
@@ -14,8 +13,10 @@ pub mod ValidFields
 pub mod DrawingLaws
 pub mod ImageLaws
 pub mod LoadedLaws
+pub mod Bank
 pub mod HeldRuns
 pub mod CutLaws
 pub mod GoingOn
+pub mod BoardLaws
 pub mod OneAnswer
 pub mod Lively

@@ -1,6 +1,7 @@
 -- Bytes that load are the image of the record that they load to: each field of it is read from where it is laid.
 use mathlib.Core.Path.{_≡_, refl, sym, ap, _∙_}
 use mathlib.Core.Bool.{true}
+use mathlib.Core.Logic.{_↔_}
 use mathlib.Core.List.{List, [], _∷_, _++_}
 use Prim.Native.Nat.{ℕ, zero, suc, _+_, _*_, _%_, _^_, _≤_, _<_}
 use native.Mathlib.Omega.{arith}
@@ -14,22 +15,26 @@ use Rattle.numbers.specs.Bytes.{le}
 use Rattle.numbers.specs.Circles.{residue}
 use Rattle.pixels.specs.declared.Map.{Map}
 use Rattle.rules.specs.Maps.{freshMap, mapAt}
-use Rattle.rules.proofs.Conjunctions.{and-l, and-r}
-use Rattle.image.specs.Words.{pointWord, spotWord, inksWord}
+use Rattle.image.specs.Words.{pointWord, spotWord, inksWord, mapWords, termWords, colourWords, pointerWords, bankOf}
 use Rattle.image.specs.Counters.{countersOf}
 use Rattle.image.specs.Fields.{Field, _bytes_, laid, counterFields, headFields, mapFields, mapsFields, wordFields, bankFields, fieldsBy}
 use Rattle.image.specs.Places.{at, mapFrom, inkFrom, pointFrom, spotFrom, mapsFrom, termsFrom, compareFrom, countersFrom}
+use Rattle.coprocessor.specs.declared.Coprocessor.{Coprocessor}
 use Rattle.coprocessor.specs.Valid.{validOf}
 use Rattle.coprocessor.specs.Reads.{wordsOf}
 use Rattle.coprocessor.specs.Images.{fieldsOf, imageOf, loaded, loads, saves, saved}
+use Rattle.coprocessor.specs.Inner.{loadsBy}
+use Rattle.coprocessor.proofs.ImageRules.{loads-by}
 use Rattle.theorems.specs.Held.{Held}
 use Rattle.theorems.proofs.DrawingLaws.{same-counters}
+use Rattle.theorems.proofs.ImageLaws.{loads-image, loaded-image}
 use Rattle.numbers.proofs.BytePartLaws.{number-lt, number-split, le-part}
 use Rattle.numbers.proofs.SignedBytes.{residue-signed}
+use Rattle.numbers.proofs.Choices.{and-left, and-right}
 
 pub loaded-valid : (b : List ℕ) → loads b ≡ true → validOf (loaded b) ≡ true
-unfolding loads
-loaded-valid b e = search and-r
+unfolding loadsBy
+loaded-valid b e = let by : loadsBy b ≡ true = loads-by b ∙ e in search (by, and-right)
 
 -- the fields of these widths, read one after another from this offset on
 unfoldable reads : List ℕ → ℕ → List ℕ → List Field
@@ -87,25 +92,25 @@ module _ (b : List ℕ) (small : (i : ℕ) → getD b i 0 < 256) where
 
   -- ---- the record's image
 
-  module _ (e : loads b ≡ true) where
+  module _ (e : loadsBy b ≡ true) where
     long : length b ≡ 115
-    unfolding loads
-    long = eqb-true (length b) 115 (search (and-l, and-r))
+    unfolding loadsBy
+    long = eqb-true (length b) 115 (search (and-left, and-right))
 
     mark : 0x534758 ≡ at 0 3 b
-    unfolding loads
-    mark = sym (eqb-true (at 0 3 b) 0x534758 (search (and-l, and-r)))
+    unfolding loadsBy
+    mark = sym (eqb-true (at 0 3 b) 0x534758 (search (and-left, and-right)))
 
     version : 1 ≡ at 3 2 b
-    unfolding loads
-    version = sym (eqb-true (at 3 2 b) 1 (search (and-l, and-r)))
+    unfolding loadsBy
+    version = sym (eqb-true (at 3 2 b) 1 (search (and-left, and-right)))
 
     counters : countersOf (loaded b .drawing) ≡ countersFrom b
-    unfolding loads
-    counters = sym (same-counters (countersFrom b) (countersOf (loaded b .drawing)) (search (and-l, and-r)))
+    unfolding loadsBy
+    counters = sym (same-counters (countersFrom b) (countersOf (loaded b .drawing)) (search (and-left, and-right)))
 
     fields-read : fieldsOf (loaded b) ≡ reads b 0 widths
-    unfolding fieldsOf fieldsBy headFields counterFields mapsFields mapFields bankFields wordFields wordsOf mapAt loaded mapsFrom mapFrom termsFrom inkFrom compareFrom pointFrom spotFrom countersFrom pointWord spotWord inksWord reads widths
+    unfolding fieldsOf fieldsBy headFields counterFields mapsFields mapFields bankFields wordFields wordsOf mapWords termWords colourWords pointerWords bankOf mapAt loaded mapsFrom mapFrom termsFrom inkFrom compareFrom pointFrom spotFrom countersFrom pointWord spotWord inksWord reads widths
     fields-read = λ i.
         (3 bytes (mark i)) ∷ (2 bytes (version i)) ∷ (4 bytes (at 5 4 b))
         ∷ (1 bytes (counters i .state)) ∷ (2 bytes (counters i .done)) ∷ (2 bytes (counters i .gone)) ∷ (1 bytes (counters i .count))
@@ -123,7 +128,7 @@ module _ (b : List ℕ) (small : (i : ℕ) → getD b i 0 < 256) where
     image-read = ap laid fields-read ∙ laid-reads widths 0 (sym long)
 
 pub image-loaded : (b : List ℕ) → loads b ≡ true → ((i : ℕ) → getD b i 0 < 256) → imageOf (loaded b) ≡ b
-image-loaded b e small = image-read b small e
+image-loaded b e small = image-read b small (loads-by b ∙ e)
 
 -- load, then save
 pub save-load : (b into : List ℕ) → loads b ≡ true → ((i : ℕ) → getD b i 0 < 256) → length into ≡ 115 → saved (loaded b) into ≡ b
@@ -160,3 +165,10 @@ held-loaded b small =
       carries = lt 79 4;
       operations = lt 111 4;
     }
+
+-- ---- a record and its own image
+
+-- 01, refusal 10: a record is valid exactly when its own image loads to it
+pub own-image : (c : Coprocessor) → Held c → (validOf c ≡ true) ↔ ((loads (imageOf c) ≡ true) × (loaded (imageOf c) ≡ c))
+own-image c held =
+    (λ v. (loads-image c held v, loaded-image c held v), λ own. rw (own .1) at (loaded-valid (imageOf c) (own .0)))

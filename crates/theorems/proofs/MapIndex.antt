@@ -7,22 +7,22 @@ use lib.Dec.{ltb, eqb}
 use lib.ListN.{getD}
 use lib.Seq.{set-getD}
 use borrow.Author.Tests.{ltb-true, eqb-true}
-use Rattle.numbers.specs.Bytes.{low, latched}
+use Rattle.numbers.specs.Bytes.{low, covers, latched}
 use Rattle.numbers.specs.declared.bytes.Write.{Write}
 use Rattle.numbers.proofs.ByteLaws.{latched-whole}
+use Rattle.numbers.proofs.Choices.{and-left, and-right}
 use Rattle.parts.specs.Refusals.{isAccepted}
 use Rattle.parts.specs.Latches.{touched, taken, takenLow, takenTerm, takenDestination}
 use Rattle.parts.specs.Registers.{registers, among, placed, listed}
 use Rattle.parts.specs.Shapes.{mapTaken, termsTaken, inkTaken, compareTaken, pointTaken, spotTaken}
 use Rattle.parts.proofs.Every.{every, every-at}
 use Rattle.rules.specs.Maps.{freshMap, mapAt}
-use Rattle.rules.proofs.Conjunctions.{and-l, and-r}
 use Rattle.coprocessor.specs.declared.Coprocessor.{Coprocessor}
 use Rattle.coprocessor.specs.Valid.{validOf}
 use Rattle.theorems.specs.Held.{Held}
-use Rattle.coprocessor.specs.Writes.{merged, startsBy, started, settledBy, writeRefusal, writeAnswer}
+use Rattle.coprocessor.specs.Writes.{stored, startsBy, started, settledBy, writeRefusal, writeAnswer}
 use Rattle.coprocessor.specs.Runs.{withPen}
-use Rattle.theorems.specs.ReadBack.{registerAt, shown, storedOf, selecting, Selected}
+use Rattle.theorems.specs.ReadBack.{registerAt, shown, storedOf, mapping, selecting, Selected}
 use Rattle.coprocessor.proofs.PlaceLaws.{placed-known}
 use Rattle.theorems.proofs.AcceptedWrites.{accepted-allowed, by-write}
 use Rattle.theorems.proofs.MapsLaws.{map-other}
@@ -49,45 +49,26 @@ index-alone : (w : Write) (c : Coprocessor) → isAccepted (writeRefusal w c) �
 unfolding touched alone
 index-alone w c accepted touches =
     let allowed = accepted-allowed w c accepted in
-    let low : w .offset < 0x13 = ltb-true (w .offset) 0x13 (search (touches, and-l)) in
+    let low : w .offset < 0x13 = ltb-true (w .offset) 0x13 (search (touches, and-left)) in
     let short : w .length < 5 = omega (arith, placed-known (w .offset) (w .length) (allowed .place)) in
     let lengths = every-at 0x13 (λ offset. every 5 (alone offset)) all-alone (w .offset) low in
     let test : alone (w .offset) (w .length) ≡ true = every-at 5 _ lengths (w .length) short in
     let place : (eqb (w .offset) 0x12 && eqb (w .length) 1) ≡ true = rw (allowed .place, allowed .registers, touches) at test in
-    let offset : w .offset ≡ 0x12 = eqb-true _ _ (search (place, and-l)) in
-    let length : w .length ≡ 1 = eqb-true _ _ (search (place, and-r)) in
+    let offset : w .offset ≡ 0x12 = eqb-true _ _ (search (place, and-left)) in
+    let length : w .length ≡ 1 = eqb-true _ _ (search (place, and-right)) in
     λ i. record { offset = offset i; length = length i; value = w .value }
 
-merged-index : (value : ℕ) (c : Coprocessor) → merged (indexWrite value) c ≡ selecting (low 2 value) c
-unfolding touched taken takenLow takenTerm takenDestination mapTaken termsTaken inkTaken compareTaken pointTaken spotTaken mapAt merged selecting
+merged-index : (value : ℕ) (c : Coprocessor) → stored (indexWrite value) c ≡ selecting (low 2 value) c
+unfolding touched taken takenLow takenTerm takenDestination mapTaken termsTaken inkTaken compareTaken pointTaken spotTaken mapAt stored mapping selecting
 merged-index value c =
     let stored = latched-whole 1 0x12 (indexWrite value) (c .index) refl refl in
     let index : latched 1 0x12 (indexWrite value) (c .index) % 4 ≡ value % 4 = rw stored (omega arith) in
     let maps = set-getD (c .maps) (c .index % 4) freshMap in
-    λ i.
-    record {
-      size = c .size;
-      index = index i;
-      maps = maps i;
-      terms = c .terms;
-      steps = c .steps;
-      foreground = c .foreground;
-      background = c .background;
-      compare = c .compare;
-      planes = c .planes;
-      carries = c .carries;
-      dimensions = c .dimensions;
-      origin = c .origin;
-      source = c .source;
-      pattern = c .pattern;
-      destination = c .destination;
-      operations = c .operations;
-      drawing = c .drawing;
-    }
+    λ i. mapping (index i) (maps i) c
 
 -- it starts nothing
 settled-index : (value : ℕ) (c : Coprocessor) → settledBy (indexWrite value) c ≡ c
-unfolding touched startsBy settledBy
+unfolding covers startsBy settledBy
 settled-index value c = refl
 
 pub index-settled : (w : Write) (c : Coprocessor) → isAccepted (writeRefusal w c) ≡ true → touched 1 0x12 w ≡ true
@@ -95,12 +76,12 @@ pub index-settled : (w : Write) (c : Coprocessor) → isAccepted (writeRefusal w
 unfolding writeAnswer
 index-settled w c accepted touches =
     let same = index-alone w c accepted touches in
-    let settled = settled-index (w .value) (merged (indexWrite (w .value)) c) in
-    rw accepted (ap (λ (v : Write). settledBy v (merged v c)) same ∙ settled ∙ merged-index (w .value) c)
+    let settled = settled-index (w .value) (stored (indexWrite (w .value)) c) in
+    rw accepted (ap (λ (v : Write). settledBy v (stored v c)) same ∙ settled ∙ merged-index (w .value) c)
 
 -- the registers after the map's do not tell which map is selected
 stored-selecting : (chosen : ℕ) (c : Coprocessor) (i : ℕ) → 5 ≤ i → getD (storedOf (selecting chosen c)) i 0 ≡ getD (storedOf c) i 0
-unfolding storedOf selecting
+unfolding storedOf mapping selecting
 stored-selecting chosen c zero h = absurd (omega arith)
 stored-selecting chosen c (suc zero) h = absurd (omega arith)
 stored-selecting chosen c (suc (suc zero)) h = absurd (omega arith)
@@ -110,7 +91,7 @@ stored-selecting chosen c (suc (suc (suc (suc (suc i))))) h = refl
 
 pub index-written : (w : Write) (c : Coprocessor) → Held c → isAccepted (writeRefusal w c) ≡ true → touched 1 0x12 w ≡ true
     → Selected (low 2 (w .value)) c (writeAnswer w c .coprocessor)
-unfolding registers registerAt storedOf selecting
+unfolding registers registerAt storedOf mapping selecting
 index-written w c held accepted touches =
     record {
       index = reads 0;

@@ -7,14 +7,14 @@ use native.Mathlib.Omega.{arith}
 use lib.ListN.{length, getD, set}
 use lib.Seq.{getD-set-same, getD-set-other}
 use Rattle.numbers.specs.declared.bytes.Write.{Write}
+use Rattle.numbers.proofs.Choices.{and-left, and-right}
 use Rattle.pixels.specs.declared.Map.{Map}
 use Rattle.parts.specs.Shapes.{mapTaken}
 use Rattle.parts.specs.Reduced.{mapReduced}
 use Rattle.rules.specs.Maps.{freshMap, mapAt}
-use Rattle.rules.proofs.Conjunctions.{and-l, and-r}
 use Rattle.coprocessor.specs.declared.Coprocessor.{Coprocessor}
 use Rattle.coprocessor.specs.Valid.{mapsReduced}
-use Rattle.coprocessor.specs.Writes.{merged}
+use Rattle.coprocessor.specs.Writes.{stored}
 
 -- ---- one of the four
 
@@ -30,7 +30,7 @@ pub map-reduced : (maps : List Map) → mapsReduced maps ≡ true → (field : �
 unfolding mapAt mapsReduced
 map-reduced maps e field =
     below-four (λ (k : ℕ). mapReduced (getD maps k freshMap) ≡ true)
-    (search (e, and-l, and-r)) (search (e, and-l, and-r)) (search (e, and-l, and-r)) (search (e, and-l, and-r))
+    (search (e, and-left, and-right)) (search (e, and-left, and-right)) (search (e, and-left, and-right)) (search (e, and-left, and-right))
     (field % 4) (omega arith)
 
 -- ---- after a write
@@ -45,14 +45,14 @@ set-either P (x ∷ l) (suc i) (suc j) a d p q = set-either P l i j a d p q
 
 module _ (w : Write) (c : Coprocessor) where
   pub map-either : (P : Map → Type 0) (field : ℕ) → P (mapTaken w (mapAt (c .maps) (c .index))) → P (mapAt (c .maps) field)
-      → P (mapAt (merged w c .maps) field)
-  unfolding mapAt merged
+      → P (mapAt (stored w c .maps) field)
+  unfolding mapAt stored
   map-either P field = set-either P (c .maps) (c .index % 4) (field % 4) _ freshMap
 
-  pub map-selected : length (c .maps) ≡ 4 → mapAt (merged w c .maps) (c .index) ≡ mapTaken w (mapAt (c .maps) (c .index))
-  unfolding mapAt merged
+  pub map-selected : length (c .maps) ≡ 4 → mapAt (stored w c .maps) (c .index) ≡ mapTaken w (mapAt (c .maps) (c .index))
+  unfolding mapAt stored
   map-selected four = getD-set-same (c .maps) (c .index % 4) _ freshMap (omega arith)
 
-  pub map-other : (field : ℕ) → (field % 4 ≡ c .index % 4 → ⊥) → mapAt (merged w c .maps) field ≡ mapAt (c .maps) field
-  unfolding mapAt merged
+  pub map-other : (field : ℕ) → (field % 4 ≡ c .index % 4 → ⊥) → mapAt (stored w c .maps) field ≡ mapAt (c .maps) field
+  unfolding mapAt stored
   map-other field other = getD-set-other (c .maps) (c .index % 4) (field % 4) _ freshMap other

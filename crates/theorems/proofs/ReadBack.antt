@@ -11,6 +11,7 @@ use Rattle.numbers.specs.Choose.{choose}
 use Rattle.numbers.specs.Bytes.{latched}
 use Rattle.numbers.specs.Circles.{residue, circle}
 use Rattle.numbers.specs.declared.bytes.Write.{Write}
+use Rattle.numbers.proofs.Choices.{choose-part}
 use Rattle.parts.specs.Refusals.{isAccepted}
 use Rattle.parts.specs.Latches.{touched, taken, takenLow, takenTerm, takenDestination}
 use Rattle.parts.specs.Registers.{registers}
@@ -19,9 +20,8 @@ use Rattle.parts.proofs.LatchLaws.{low-untouched}
 use Rattle.rules.specs.Maps.{mapAt}
 use Rattle.coprocessor.specs.declared.Coprocessor.{Coprocessor}
 use Rattle.theorems.specs.Held.{Held}
-use Rattle.coprocessor.specs.Writes.{merged, startsBy, settledBy, writeRefusal, writeAnswer}
+use Rattle.coprocessor.specs.Writes.{stored, startsBy, settledBy, writeRefusal, writeAnswer}
 use Rattle.theorems.specs.ReadBack.{registerAt, shown, storedOf, isTwelve, isTerm, isDestination, reducedAs, shownAfter}
-use Rattle.theorems.proofs.Choices.{through}
 use Rattle.theorems.proofs.AcceptedWrites.{accepted-allowed}
 use Rattle.theorems.proofs.MapsLaws.{map-selected}
 use Rattle.theorems.proofs.ValidWrites.{write-valid}
@@ -41,23 +41,23 @@ getD-zip f (x ∷ l) (y ∷ m) (suc i) a b c h k = getD-zip f l m i a b c (le-of
 term-shown : (at : ℕ) (w : Write) (z : ℤ)
     → residue (2 ^ 32) (takenTerm at w z) ≡ choose (touched 4 at w) (residue (2 ^ 32) (circle 8192 16384 (pos (latched 4 at w (residue (2 ^ 32) z))))) (residue (2 ^ 32) z)
 unfolding takenTerm
-term-shown at w z = through (residue (2 ^ 32)) (touched 4 at w) _ z
+term-shown at w z = sym (choose-part (residue (2 ^ 32)) (touched 4 at w) _ z)
 
 destination-shown : (at : ℕ) (w : Write) (z : ℤ)
     → residue (2 ^ 16) (takenDestination at w z) ≡ choose (touched 2 at w) (residue (2 ^ 16) (circle 2048 8192 (pos (latched 2 at w (residue (2 ^ 16) z))))) (residue (2 ^ 16) z)
 unfolding takenDestination
-destination-shown at w z = through (residue (2 ^ 16)) (touched 2 at w) _ z
+destination-shown at w z = sym (choose-part (residue (2 ^ 16)) (touched 2 at w) _ z)
 
 module _ (w : Write) (c : Coprocessor) (held : Held c) (unmoved : touched 1 0x12 w ≡ false) where
   -- the map that the index selects takes its bytes
-  selected : mapAt (merged w c .maps) (merged w c .index) ≡ mapTaken w (mapAt (c .maps) (c .index))
-  unfolding merged
-  selected = ap (mapAt (merged w c .maps)) (low-untouched 1 0x12 w unmoved 2 (c .index)) ∙ map-selected w c (held .four)
+  selected : mapAt (stored w c .maps) (stored w c .index) ≡ mapTaken w (mapAt (c .maps) (c .index))
+  unfolding stored
+  selected = ap (mapAt (stored w c .maps)) (low-untouched 1 0x12 w unmoved 2 (c .index)) ∙ map-selected w c (held .four)
 
-  stored-merged : storedOf (merged w c) ≡ zipWith (shownAfter w) registers (storedOf c)
-  unfolding zipWith registers taken takenLow takenTerm takenDestination mapTaken termsTaken inkTaken compareTaken pointTaken spotTaken merged storedOf isTwelve isTerm isDestination reducedAs shownAfter
+  stored-merged : storedOf (stored w c) ≡ zipWith (shownAfter w) registers (storedOf c)
+  unfolding zipWith registers taken takenLow takenTerm takenDestination mapTaken termsTaken inkTaken compareTaken pointTaken spotTaken stored storedOf isTwelve isTerm isDestination reducedAs shownAfter
   stored-merged =
-      let next = merged w c in
+      let next = stored w c in
       λ i.
       next .index
       ∷ selected i .base
@@ -90,13 +90,13 @@ module _ (w : Write) (c : Coprocessor) (held : Held c) (unmoved : touched 1 0x12
       ∷ []
 
 -- 01, Registers: a register reads back what was written, reduced; the selected map's registers, where the write leaves the index alone
-pub read-after-write : (w : Write) (c : Coprocessor) → Held c → isAccepted (writeRefusal w c) ≡ true → startsBy w (merged w c) ≡ false
+pub read-after-write : (w : Write) (c : Coprocessor) → Held c → isAccepted (writeRefusal w c) ≡ true → startsBy w (stored w c) ≡ false
     → touched 1 0x12 w ≡ false → (i : ℕ) → i < 28
     → shown (writeAnswer w c .coprocessor) (registerAt i) ≡ shownAfter w (registerAt i) (shown c (registerAt i))
 unfolding registers registerAt storedOf settledBy writeAnswer
 read-after-write w c held accepted none unmoved i h =
     let valid = accepted-allowed w c accepted .valid in
-    let after : writeAnswer w c .coprocessor ≡ merged w c = rw (accepted, none) in
+    let after : writeAnswer w c .coprocessor ≡ stored w c = rw (accepted, none) in
     value-stored (writeAnswer w c .coprocessor) (held-written w c held) (write-valid w c valid) i
     ∙ ap (λ (d : Coprocessor). getD (storedOf d) i 0) after
     ∙ ap (λ (l : List ℕ). getD l i 0) (stored-merged w c held unmoved)

@@ -1,8 +1,12 @@
--- A refused write hands the record back, and a fresh state is valid: the first by the choice that the answer makes, the second by computing every test.
-use mathlib.Core.Path.{_≡_, refl}
-use mathlib.Core.Bool.{true, false}
+-- A refused write or load hands the record back, a refused save the buffer, a refused read gives 0, and a fresh state is valid: the first four by the choice that each answer makes, the last by computing every test.
+use mathlib.Core.Path.{_≡_, refl, sym}
+use mathlib.Core.Bool.{Bool, true, false, false≢true}
+use mathlib.Core.List.{List}
 use Prim.Native.Nat.{ℕ}
+use Rattle.numbers.specs.Choose.{choose}
 use Rattle.numbers.specs.declared.bytes.Write.{Write}
+use Rattle.numbers.proofs.Choices.{by-test}
+use Rattle.parts.specs.declared.refusals.Refusal.the-variants.{Accepted, Image}
 use Rattle.parts.specs.Refusals.{isAccepted}
 use Rattle.parts.specs.Reduced.{mapReduced, termReduced, termsReduced, compareReduced, pointReduced, destinationReduced, spotReduced}
 use Rattle.rules.specs.Maps.{mapAt}
@@ -10,13 +14,34 @@ use Rattle.coprocessor.specs.declared.Coprocessor.{Coprocessor}
 use Rattle.coprocessor.specs.declared.Written.{Written}
 use Rattle.coprocessor.specs.Fresh.{sizeHolds, freshOf, freshAnswer}
 use Rattle.coprocessor.specs.Valid.{mapsReduced, pointersReduced, reducedOf, goesOn, validOf}
+use Rattle.coprocessor.specs.Reads.{readRefusal, readAnswer}
 use Rattle.coprocessor.specs.Writes.{writeRefusal, writeAnswer}
-use Rattle.theorems.proofs.Choices.{by-test}
+use Rattle.coprocessor.specs.Images.{imageOf, loads, saves, saveRefusal, saved, loadAnswer}
 
 -- 01, Numbers a call answers with: a refused write stores nothing, not even the register
 pub write-refused : (w : Write) (c : Coprocessor) → isAccepted (writeRefusal w c) ≡ false → writeAnswer w c .coprocessor ≡ c
 unfolding writeAnswer
 write-refused w c refused = rw refused
+
+-- 01, Numbers a call answers with: a refused read gives 0
+pub read-refused : (c : Coprocessor) (offset length : ℕ) → isAccepted (readRefusal c offset length) ≡ false → readAnswer c offset length .value ≡ 0
+unfolding readAnswer
+read-refused c offset length refused = rw refused
+
+-- 01, Numbers a call answers with: a refused load keeps the old state
+pub load-refused : (c : Coprocessor) (b : List ℕ) → isAccepted (loadAnswer c b .refusal) ≡ false → loadAnswer c b .coprocessor ≡ c
+unfolding loadAnswer
+load-refused c b =
+    by-test (λ (r : Written). isAccepted (r .refusal) ≡ false → r .coprocessor ≡ c) (loads b) (λ holds refused. absurd (false≢true (sym refused))) (λ fails refused. refl)
+
+-- 01, Numbers a call answers with: a refused save keeps the buffer
+pub save-refused : (c : Coprocessor) (b : List ℕ) → isAccepted (saveRefusal c b) ≡ false → saved c b ≡ b
+unfolding saveRefusal saved
+save-refused c b = by (saves c b)
+  where
+    by : (t : Bool) → isAccepted (choose t Accepted Image) ≡ false → choose t (imageOf c) b ≡ b
+    by true refused = absurd (false≢true (sym refused))
+    by false refused = refl
 
 pub fresh-valid : (size : ℕ) → sizeHolds size ≡ true → validOf (freshOf size) ≡ true
 unfolding freshOf mapAt mapReduced termReduced termsReduced compareReduced pointReduced destinationReduced spotReduced mapsReduced pointersReduced reducedOf goesOn validOf

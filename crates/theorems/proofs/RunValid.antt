@@ -10,6 +10,7 @@ use lib.IntN.{ℤ}
 use lib.Dec.{lit<, ltb}
 use borrow.Author.Tests.{leb-true, ltb-true, lt-ltb}
 use Rattle.numbers.specs.Circles.{circle}
+use Rattle.numbers.proofs.Choices.{by-test, and-left, and-right}
 use Rattle.pixels.specs.declared.Map.{Map}
 use Rattle.parts.specs.declared.shapes.Point.{Point}
 use Rattle.parts.specs.declared.shapes.Spot.{Spot}
@@ -21,12 +22,10 @@ use Rattle.parts.specs.Reduced.{mapReduced, termReduced, termsReduced, compareR
 use Rattle.parts.proofs.ReducedLaws.{term-circle-reduced, term-circle-fixed, destination-circle-reduced, destination-circle-fixed}
 use Rattle.rules.specs.Maps.{freshMap, mapAt, isInside}
 use Rattle.rules.specs.Going.{countersHold, pointersHold}
-use Rattle.rules.proofs.Conjunctions.{and-l, and-r}
 use Rattle.moves.specs.declared.Setup.{Setup}
 use Rattle.moves.specs.declared.Pen.{Pen}
 use Rattle.moves.specs.Decoded.{flowOf}
 use Rattle.moves.specs.Moves.{penWith, penStepped, rowPassed, moved}
-use Rattle.moves.proofs.Choices.{by-test}
 use Rattle.moves.proofs.Counters.{counters-moved}
 use Rattle.moves.proofs.Kept.{kept, pointersInside, pointers-moved, SpotOn, destination-moved, error-moved}
 use Rattle.runs.specs.Runs.{Run, begun, positioned, ended, after}
@@ -68,19 +67,19 @@ unfolding mapsReduced mapAt
 map-reduced maps field h = by (field % 4) (mod-lt field (lit< tt))
   where
     by : (k : ℕ) → k < 4 → mapReduced (getD maps k freshMap) ≡ true
-    by zero less = search (h, and-l, and-r)
-    by (suc zero) less = search (h, and-l, and-r)
-    by (suc (suc zero)) less = search (h, and-l, and-r)
-    by (suc (suc (suc zero))) less = search (h, and-l, and-r)
+    by zero less = search (h, and-left, and-right)
+    by (suc zero) less = search (h, and-left, and-right)
+    by (suc (suc zero)) less = search (h, and-left, and-right)
+    by (suc (suc (suc zero))) less = search (h, and-left, and-right)
     by (suc (suc (suc (suc k)))) less = absurd (omega arith)
 
 inside-reduced : (map : Map) (p : Point) → mapReduced map ≡ true → isInside map p ≡ true → pointReduced p ≡ true
 unfolding mapReduced isInside pointReduced
 inside-reduced map p r h =
-    let across = leb-true (p .x) (map .width) (search (h, and-l)) in
-    let down = leb-true (p .y) (map .height) (search (h, and-r)) in
-    let wide = ltb-true (map .width) 4096 (search (r, and-l, and-r)) in
-    let high = ltb-true (map .height) 4096 (search (r, and-l, and-r)) in
+    let across = leb-true (p .x) (map .width) (search (h, and-left)) in
+    let down = leb-true (p .y) (map .height) (search (h, and-right)) in
+    let wide = ltb-true (map .width) 4096 (search (r, and-left, and-right)) in
+    let high = ltb-true (map .height) 4096 (search (r, and-left, and-right)) in
     rw (lt-ltb (p .x) 4096 (omega arith), lt-ltb (p .y) 4096 (omega arith))
 
 -- an unused pointer stays
@@ -108,7 +107,7 @@ error-on e on = ap termReduced (sym on) ∙ term-circle-reduced e
 spot-on : (p : Spot) → spotReduced p ≡ true → SpotOn p
 unfolding spotReduced
 spot-on p h =
-    (destination-circle-fixed (p .x) (and-l (destinationReduced (p .x)) (destinationReduced (p .y)) h), destination-circle-fixed (p .y) (and-r (destinationReduced (p .x)) (destinationReduced (p .y)) h))
+    (destination-circle-fixed (p .x) (and-left (destinationReduced (p .x)) (destinationReduced (p .y)) h), destination-circle-fixed (p .y) (and-right (destinationReduced (p .x)) (destinationReduced (p .y)) h))
 
 spot-reduced : (p : Spot) → SpotOn p → spotReduced p ≡ true
 unfolding spotReduced
@@ -131,8 +130,8 @@ module _ (operations : ℕ) (s : Setup) (maps : mapReduced (s .source) ≡ true 
   sound-moved pen h =
       let inside = pointers-moved s pen (h .pointers) in
       record {
-        source = moved-reduced (s .flow .source) (s .source) (pen .source) _ (maps .0) (and-l (not (s .flow .source) || isInside (s .source) (moved s pen .source)) _ inside) (source-unused s pen) (h .source);
-        pattern = moved-reduced (s .flow .pattern) (s .pattern) (pen .pattern) _ (maps .1) (and-r (not (s .flow .source) || isInside (s .source) (moved s pen .source)) _ inside) (pattern-unused s pen) (h .pattern);
+        source = moved-reduced (s .flow .source) (s .source) (pen .source) _ (maps .0) (and-left (not (s .flow .source) || isInside (s .source) (moved s pen .source)) _ inside) (source-unused s pen) (h .source);
+        pattern = moved-reduced (s .flow .pattern) (s .pattern) (pen .pattern) _ (maps .1) (and-right (not (s .flow .source) || isInside (s .source) (moved s pen .source)) _ inside) (pattern-unused s pen) (h .pattern);
         destination = destination-moved s pen (h .destination);
         error = error-moved s pen (h .error);
         counters = counters-moved operations s pen (h .counters);
@@ -173,8 +172,8 @@ either-true false b h = refl
 valid-going : (c : Coprocessor) → validOf c ≡ true → unfinished (c .drawing) ≡ true → Going c
 unfolding validOf goesOn
 valid-going c v going =
-    let both = or-right (unfinished (c .drawing)) _ (and-r (sizeHolds (c .size) && reducedOf c) (goesOn c) v) going in
-    record { counters = search (both, and-l, and-r); starts = search (both, and-l, and-r); pointers = search (both, and-l, and-r) }
+    let both = or-right (unfinished (c .drawing)) _ (and-right (sizeHolds (c .size) && reducedOf c) (goesOn c) v) going in
+    record { counters = search (both, and-left, and-right); starts = search (both, and-left, and-right); pointers = search (both, and-left, and-right) }
 
 idle-counters : (c : Coprocessor) (d : Drawing) → unfinished d ≡ false → countersHold (c .operations) (c .dimensions) (c .steps) d ≡ true
 unfolding countersHold
@@ -206,17 +205,17 @@ record Reduced (c : Coprocessor) : Type 0 where
 valid-reduced : (c : Coprocessor) → validOf c ≡ true → Reduced c
 unfolding validOf reducedOf pointersReduced
 valid-reduced c v =
-    let reduced : reducedOf c ≡ true = and-r (sizeHolds (c .size)) (reducedOf c) (and-l (sizeHolds (c .size) && reducedOf c) (goesOn c) v) in
+    let reduced : reducedOf c ≡ true = and-right (sizeHolds (c .size)) (reducedOf c) (and-left (sizeHolds (c .size) && reducedOf c) (goesOn c) v) in
     record {
-      size = search (v, and-l, and-r);
-      places = search (reduced, and-l, and-r);
-      terms = search (reduced, and-l, and-r);
-      compare = search (reduced, and-l, and-r);
-      dimensions = search (reduced, and-l, and-r);
-      origin = search (reduced, and-l, and-r);
-      source = search (reduced, and-l, and-r);
-      pattern = search (reduced, and-l, and-r);
-      destination = search (reduced, and-l, and-r);
+      size = search (v, and-left, and-right);
+      places = search (reduced, and-left, and-right);
+      terms = search (reduced, and-left, and-right);
+      compare = search (reduced, and-left, and-right);
+      dimensions = search (reduced, and-left, and-right);
+      origin = search (reduced, and-left, and-right);
+      source = search (reduced, and-left, and-right);
+      pattern = search (reduced, and-left, and-right);
+      destination = search (reduced, and-left, and-right);
     }
 
 valid-sound : (c : Coprocessor) → validOf c ≡ true → unfinished (c .drawing) ≡ true → Sound (c .operations) (setupOf c) (penOf c)
@@ -229,7 +228,7 @@ valid-sound c v going =
       source = r .source;
       pattern = r .pattern;
       destination = spot-on (c .destination) (r .destination);
-      error = term-circle-fixed (c .terms .e) (search (terms, and-l, and-r));
+      error = term-circle-fixed (c .terms .e) (search (terms, and-left, and-right));
       counters = g .counters;
       pointers = g .pointers;
     }
@@ -241,8 +240,8 @@ unfolding validOf reducedOf pointersReduced termsReduced goesOn startRefusalOf s
 sound-valid c pen v starts h =
     let r = valid-reduced c v in
     let terms = r .terms in
-    let k1 : termReduced (c .terms .k1) ≡ true = search (terms, and-l, and-r) in
-    let k2 : termReduced (c .terms .k2) ≡ true = search (terms, and-l, and-r) in
+    let k1 : termReduced (c .terms .k1) ≡ true = search (terms, and-left, and-right) in
+    let k2 : termReduced (c .terms .k2) ≡ true = search (terms, and-left, and-right) in
     rw (r .size, r .places, error-on (pen .e) (h .error), k1, k2, r .compare, r .dimensions, r .origin, h .source, h .pattern, spot-reduced (pen .destination) (h .destination), h .counters, starts)
     (either-true (unfinished (pen .drawing)) _ (h .pointers))
 
@@ -253,7 +252,7 @@ idle-pen c idle = idle
 source-and-pattern : (c : Coprocessor) → validOf c ≡ true → mapReduced (setupOf c .source) ≡ true × mapReduced (setupOf c .pattern) ≡ true
 unfolding setupOf
 source-and-pattern c v =
-    let maps = and-r (ltb (c .index) 4) (mapsReduced (c .maps)) (valid-reduced c v .places) in
+    let maps = and-right (ltb (c .index) 4) (mapsReduced (c .maps)) (valid-reduced c v .places) in
     (map-reduced (c .maps) _ maps, map-reduced (c .maps) _ maps)
 
 pub ran-valid : (c : Coprocessor) (memory : List ℕ) (n : ℕ) → validOf c ≡ true → validOf (withPen c (ranOf c memory n .pen)) ≡ true

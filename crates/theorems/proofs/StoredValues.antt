@@ -13,6 +13,7 @@ use borrow.Author.Tests.{ltb-true}
 use Rattle.numbers.specs.Bytes.{partOf}
 use Rattle.numbers.specs.Circles.{residue}
 use Rattle.numbers.proofs.CircleLaws.{residue-lt}
+use Rattle.numbers.proofs.Choices.{and-left, and-right}
 use Rattle.pixels.specs.declared.Map.{Map}
 use Rattle.parts.specs.declared.shapes.Ink.{Ink}
 use Rattle.parts.specs.declared.shapes.Compare.{Compare}
@@ -21,10 +22,9 @@ use Rattle.parts.specs.declared.shapes.Spot.{Spot}
 use Rattle.parts.specs.Registers.{registers}
 use Rattle.parts.specs.Reduced.{mapReduced, compareReduced, pointReduced}
 use Rattle.rules.specs.Maps.{mapAt}
-use Rattle.rules.proofs.Conjunctions.{and-l, and-r}
 use Rattle.coprocessor.specs.declared.Coprocessor.{Coprocessor}
 use Rattle.coprocessor.specs.Valid.{pointersReduced, reducedOf, validOf}
-use Rattle.image.specs.Words.{pointWord, spotWord, sizeWord, inksWord}
+use Rattle.image.specs.Words.{pointWord, spotWord, sizeWord, inksWord, mapWords, termWords, colourWords, pointerWords, bankOf}
 use Rattle.coprocessor.specs.Reads.{wordsOf, valueAt}
 use Rattle.theorems.specs.Held.{Held}
 use Rattle.theorems.specs.ReadBack.{registerAt, shown, storedOf}
@@ -57,15 +57,15 @@ twelve x e = let h : x < 4096 = ltb-true x 4096 e in omega arith
 point-parts : (p : Point) → pointReduced p ≡ true → (partOf 0 2 (pointWord p) ≡ p .x) × (partOf 2 2 (pointWord p) ≡ p .y)
 unfolding pointReduced pointWord
 point-parts p e =
-    let x = twelve (p .x) (search (e, and-l)) in
-    (part-low 2 (p .x) (p .y) x, part-high 2 (p .x) (p .y) x 2 (twelve (p .y) (search (e, and-r))))
+    let x = twelve (p .x) (search (e, and-left)) in
+    (part-low 2 (p .x) (p .y) x, part-high 2 (p .x) (p .y) x 2 (twelve (p .y) (search (e, and-right))))
 
 size-parts : (m : Map) → mapReduced m ≡ true → (partOf 0 2 (sizeWord m) ≡ m .width) × (partOf 2 2 (sizeWord m) ≡ m .height) × (partOf 0 1 (m .format) ≡ m .format)
 unfolding mapReduced sizeWord
 size-parts m e =
-    let width = twelve (m .width) (search (e, and-l, and-r)) in
-    let height = twelve (m .height) (search (e, and-l, and-r)) in
-    let format : m .format < 16 = ltb-true _ _ (search (e, and-r)) in
+    let width = twelve (m .width) (search (e, and-left, and-right)) in
+    let height = twelve (m .height) (search (e, and-left, and-right)) in
+    let format : m .format < 16 = ltb-true _ _ (search (e, and-right)) in
     (part-low 2 (m .width) (m .height) width, part-high 2 (m .width) (m .height) width 2 height, part-whole 1 (m .format) (omega arith))
 
 spot-parts : (s : Spot) → (partOf 0 2 (spotWord s) ≡ residue (2 ^ 16) (s .x)) × (partOf 2 2 (spotWord s) ≡ residue (2 ^ 16) (s .y))
@@ -96,17 +96,17 @@ term-part z = part-whole 4 _ (residue-lt (2 ^ 32) (lit< tt) z)
 
 module _ (c : Coprocessor) (held : Held c) (valid : validOf c ≡ true) where
   values-stored : map (shown c) registers ≡ storedOf c
-  unfolding registers validOf reducedOf pointersReduced wordsOf valueAt storedOf
+  unfolding registers validOf reducedOf pointersReduced wordsOf mapWords termWords colourWords pointerWords bankOf valueAt storedOf
   values-stored =
-      let reduced : reducedOf c ≡ true = search (valid, and-l, and-r) in
-      let index = index-part (c .index) (search (reduced, and-l, and-r)) in
-      let size = size-parts (mapAt (c .maps) (c .index)) (map-reduced (c .maps) (search (reduced, and-l, and-r)) (c .index)) in
-      let inks = inks-parts (c .foreground) (c .background) (c .compare) (held .foreground-mix) (held .background-mix) (search (reduced, and-l, and-r)) in
-      let pointers : pointersReduced c ≡ true = search (reduced, and-r) in
-      let dimensions = point-parts (c .dimensions) (search (pointers, and-l, and-r)) in
-      let origin = point-parts (c .origin) (search (pointers, and-l, and-r)) in
-      let source = point-parts (c .source) (search (pointers, and-l, and-r)) in
-      let pattern = point-parts (c .pattern) (search (pointers, and-l, and-r)) in
+      let reduced : reducedOf c ≡ true = search (valid, and-left, and-right) in
+      let index = index-part (c .index) (search (reduced, and-left, and-right)) in
+      let size = size-parts (mapAt (c .maps) (c .index)) (map-reduced (c .maps) (search (reduced, and-left, and-right)) (c .index)) in
+      let inks = inks-parts (c .foreground) (c .background) (c .compare) (held .foreground-mix) (held .background-mix) (search (reduced, and-left, and-right)) in
+      let pointers : pointersReduced c ≡ true = search (reduced, and-right) in
+      let dimensions = point-parts (c .dimensions) (search (pointers, and-left, and-right)) in
+      let origin = point-parts (c .origin) (search (pointers, and-left, and-right)) in
+      let source = point-parts (c .source) (search (pointers, and-left, and-right)) in
+      let pattern = point-parts (c .pattern) (search (pointers, and-left, and-right)) in
       let destination = spot-parts (c .destination) in
       λ i.
       index i
@@ -140,5 +140,5 @@ module _ (c : Coprocessor) (held : Held c) (valid : validOf c ≡ true) where
       ∷ []
 
   pub value-stored : (i : ℕ) → shown c (registerAt i) ≡ getD (storedOf c) i 0
-  unfolding partOf wordsOf valueAt registerAt
+  unfolding partOf wordsOf mapWords termWords colourWords pointerWords bankOf valueAt registerAt
   value-stored i = sym (List·getD-map (shown c) registers i (record { at = 0; bytes = 0 })) ∙ ap (λ (l : List ℕ). getD l i 0) values-stored

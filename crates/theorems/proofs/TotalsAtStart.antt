@@ -5,6 +5,7 @@ use mathlib.Core.Logic.{_↔_}
 use Prim.Native.Nat.{ℕ, _<_}
 use native.Mathlib.Omega.{arith}
 use Rattle.numbers.specs.declared.bytes.Write.{Write}
+use Rattle.numbers.proofs.Choices.{and-left, and-right}
 use Rattle.parts.specs.declared.shapes.Point.{Point}
 use Rattle.parts.specs.declared.drawing.Drawing.{Drawing}
 use Rattle.parts.specs.declared.drawing.Drawing.the-variants.{Nothing, Line, Codes, Block}
@@ -12,27 +13,26 @@ use Rattle.parts.specs.Refusals.{isAccepted}
 use Rattle.parts.specs.Drawings.{unfinished}
 use Rattle.rules.specs.Going.{countersHold}
 use Rattle.rules.specs.Totals.{leftOf}
-use Rattle.rules.proofs.Conjunctions.{and-l, and-r}
 use Rattle.rules.proofs.TotalLaws.{left-started, left-some, left-idle}
 use Rattle.coprocessor.specs.declared.Coprocessor.{Coprocessor}
 use Rattle.coprocessor.specs.Valid.{goesOn, validOf}
-use Rattle.coprocessor.specs.Writes.{merged, startsBy, started, settledBy, writeRefusal, writeAnswer}
+use Rattle.coprocessor.specs.Writes.{stored, startsBy, started, settledBy, writeRefusal, writeAnswer}
 use Rattle.coprocessor.specs.Runs.{withPen}
 use Rattle.theorems.specs.Totals.{totalIn, leftIn}
 
-pub start-total : (w : Write) (c : Coprocessor) → isAccepted (writeRefusal w c) ≡ true → startsBy w (merged w c) ≡ true
+pub start-total : (w : Write) (c : Coprocessor) → isAccepted (writeRefusal w c) ≡ true → startsBy w (stored w c) ≡ true
     → leftIn (writeAnswer w c .coprocessor) ≡ totalIn (writeAnswer w c .coprocessor)
 unfolding started withPen settledBy writeAnswer
 start-total w c accepted starts =
-    rw (accepted, starts) (left-started (merged w c .operations) (merged w c .dimensions) (merged w c .steps) (w .length))
+    rw (accepted, starts) (left-started (stored w c .operations) (stored w c .dimensions) (stored w c .steps) (w .length))
 
 -- ---- the drawing in hand
 
 pub left-in-hand : (c : Coprocessor) → validOf c ≡ true → unfinished (c .drawing) ≡ true → 0 < leftIn c
 unfolding goesOn validOf
 left-in-hand c valid hand =
-    let going : goesOn c ≡ true = search (valid, and-r) in
-    let counters : countersHold (c .operations) (c .dimensions) (c .steps) (c .drawing) ≡ true = search (rw hand at going, and-l) in
+    let going : goesOn c ≡ true = search (valid, and-right) in
+    let counters : countersHold (c .operations) (c .dimensions) (c .steps) (c .drawing) ≡ true = search (rw hand at going, and-left) in
     left-some (c .operations) (c .dimensions) (c .steps) (c .drawing) counters hand
 
 none-left : (dimensions : Point) (steps : ℕ) (drawing : Drawing) → unfinished drawing ≡ false → leftOf dimensions steps drawing ≡ 0

@@ -16,18 +16,18 @@ pub data Event : Type 0 where
   run : ℕ → Event
   movedTo : (other : Coprocessor) (buffer : List ℕ) → length buffer ≡ 115 → Event
 
--- where a drawing stands: its coprocessor, its memory, the positions done since, and whether every call was accepted
+-- docs/DECISIONS.md, 38: where a drawing stands: its coprocessor, its memory, the positions done since, and whether every call was accepted
 pub record Stand : Type 0 where
   pub coprocessor : Coprocessor
   pub memory : List ℕ
   pub done : ℕ
   pub accepted : Bool
 
--- before the first event
+-- docs/DECISIONS.md, 38: before the first event
 unfoldable pub standing : Coprocessor → List ℕ → Stand
 standing c memory = record { coprocessor = c; memory = memory; done = 0; accepted = true }
 
--- each event by its calls' answers; a move hands the memory on with the same bytes
+-- docs/DECISIONS.md, 38: each event by its calls' answers; a move hands the memory on with the same bytes
 unfoldable pub happened : Event → Stand → Stand
 happened (run allowance) s =
     record {
@@ -44,18 +44,18 @@ happened (movedTo other buffer long) s =
       accepted = s .accepted && (isAccepted (saveRefusal (s .coprocessor) buffer) && isAccepted (loadAnswer other (saved (s .coprocessor) buffer) .refusal));
     }
 
--- the events one after another, the first of the list first
+-- docs/DECISIONS.md, 38: the events one after another, the first of the list first
 unfoldable pub lived : List Event → Stand → Stand
 lived [] s = s
 lived (e ∷ es) s = lived es (happened e s)
 
--- the summed allowances
+-- docs/DECISIONS.md, 38: the summed allowances
 unfoldable pub allowed : List Event → ℕ
 allowed [] = 0
 allowed (run allowance ∷ es) = allowance + allowed es
 allowed (movedTo other buffer long ∷ es) = allowed es
 
--- 01, How tight the promises are, point 3: what is left of a drawing of so many positions after these events
+-- 01, How tight the promises are, point 3: where a drawing of so many positions stands after these events
 pub record WentOn (c : Coprocessor) (memory : List ℕ) (total : ℕ) (events : List Event) (s : Stand) : Type 0 where
   -- the positions done are the smaller of the summed allowances and the total
   pub count : s .done ≡ min (allowed events) total

@@ -1,4 +1,4 @@
--- The bounds of a record that its validity does not test: they are those of its fields' sizes.
+-- The bounds that validity does not test, since the sizes of the fields give them.
 use mathlib.Core.Path.{_≡_}
 use Prim.Native.Nat.{ℕ, _^_, _<_}
 use lib.ListN.{length}

@@ -1,22 +1,23 @@
 -- docs/DECISIONS.md, 40: that the coprocessor draws: for every function, pixel size and mix a drawing of one position, and what it does to memory.
 use Prim.Native.Nat.{ℕ, zero, suc, _+_, _*_}
-use mathlib.Core.Bool.{_||_}
+use mathlib.Core.Bool.{Bool, true, _&&_, _||_}
 use mathlib.Core.List.{List, [], _∷_, _++_}
 use lib.ListN.{getD}
 use lib.Dec.{eqb}
 use Rattle.numbers.specs.Choose.{choose}
-use Rattle.cases.specs.Calls.{Call, Play, write, run, memory, changed}
+use Rattle.cases.specs.Calls.{Call, Play, write, run, memory, changed, played}
 
--- by mix, from 0 on: a source and a destination pixel of which the mix makes another
+-- docs/DECISIONS.md, 40: by mix, from 0 on, a source pixel that makes another of the destination pixel
 abbrev pub sources : List ℕ
 sources = 0 ∷ 0 ∷ 1 ∷ 0 ∷ 1 ∷ 1 ∷ 1 ∷ 1 ∷ 1 ∷ 0 ∷ 0 ∷ 0 ∷ 1 ∷ 0 ∷ 1 ∷ 0 ∷ 1 ∷ 0 ∷ 1 ∷ 1 ∷ 1 ∷ 0 ∷ []
 
+-- docs/DECISIONS.md, 40: by mix, the destination pixel
 abbrev pub destinations : List ℕ
 destinations = 1 ∷ 1 ∷ 1 ∷ 1 ∷ 1 ∷ 0 ∷ 0 ∷ 0 ∷ 1 ∷ 1 ∷ 0 ∷ 1 ∷ 1 ∷ 0 ∷ 1 ∷ 0 ∷ 0 ∷ 1 ∷ 0 ∷ 1 ∷ 1 ∷ 1 ∷ []
 
 -- 01, Registers: a write covering 7F starts the function, and one covering 2F draw and step, here by a code of one drawn position
-unfoldable pub startOf : ℕ → List Call
-startOf function =
+unfoldable pub startFor : ℕ → List Call
+startFor function =
     write 0x7C 4 (function * 0x1000000 + 0x18000)
     ∷ choose (eqb function 2 || eqb function 4) (write 0x2F 1 0x10 ∷ []) []
 
@@ -32,7 +33,7 @@ live function format mix =
           ∷ write 0x4A 1 4
           ∷ write 0x50 4 0xFF
           ∷ write 0x58 4 (getD sources mix 0)
-          ∷ startOf function
+          ∷ startFor function
           ++ (run 9 1 ∷ choose (eqb mix 5) memory changed (getD destinations mix 0 ∷ []) ∷ []);
     }
 
@@ -48,3 +49,8 @@ bySize function = byMix function 0 22 ++ byMix function 1 22 ++ byMix function 2
 -- all functions that draw
 unfoldable pub everyDrawing : List Play
 everyDrawing = bySize 2 ++ bySize 3 ++ bySize 4 ++ bySize 5 ++ bySize 8 ++ bySize 9
+
+-- whether all of these are played so
+unfoldable pub allPlayed : List Play → Bool
+allPlayed [] = true
+allPlayed (p ∷ ps) = played p && allPlayed ps

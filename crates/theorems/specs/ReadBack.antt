@@ -10,6 +10,7 @@ use Rattle.numbers.specs.Choose.{choose}
 use Rattle.numbers.specs.Bytes.{low, latched}
 use Rattle.numbers.specs.Circles.{residue, circle}
 use Rattle.numbers.specs.declared.bytes.Write.{Write}
+use Rattle.pixels.specs.declared.Map.{Map}
 use Rattle.parts.specs.Latches.{touched}
 use Rattle.parts.specs.Registers.{Register, registers}
 use Rattle.rules.specs.Maps.{mapAt}
@@ -20,7 +21,7 @@ use Rattle.coprocessor.specs.Reads.{valueAt}
 unfoldable pub registerAt : ℕ → Register
 registerAt i = getD registers i (record { at = 0; bytes = 0 })
 
--- what a read of this whole register shows
+-- 01, Registers: what a read of this whole register shows
 abbrev pub shown : Coprocessor → Register → ℕ
 shown c r = valueAt c (r .at) (r .bytes)
 
@@ -85,13 +86,13 @@ reducedAs at x =
 unfoldable pub shownAfter : Write → Register → ℕ → ℕ
 shownAfter w r x = choose (touched (r .bytes) (r .at) w) (reducedAs (r .at) (latched (r .bytes) (r .at) w x)) x
 
--- 01, Registers: the record with another map selected
-unfoldable pub selecting : ℕ → Coprocessor → Coprocessor
-selecting index c =
+-- 01, Registers: the record with this map index and these maps
+unfoldable pub mapping : ℕ → List Map → Coprocessor → Coprocessor
+mapping index maps c =
     record {
       size = c .size;
       index = index;
-      maps = c .maps;
+      maps = maps;
       terms = c .terms;
       steps = c .steps;
       foreground = c .foreground;
@@ -107,6 +108,10 @@ selecting index c =
       operations = c .operations;
       drawing = c .drawing;
     }
+
+-- 01, Registers: the record with another map selected
+unfoldable pub selecting : ℕ → Coprocessor → Coprocessor
+selecting index c = mapping index (c .maps) c
 
 -- 01, Registers: the index reads its two low bits, 14 to 1C show the map that it selects, and every other register reads as before
 pub record Selected (chosen : ℕ) (c d : Coprocessor) : Type 0 where

@@ -7,6 +7,6 @@ use Rattle.coprocessor.specs.declared.Coprocessor.{Coprocessor}
 abbrev pub totalIn : Coprocessor → ℕ
 totalIn c = totalOf (c .dimensions) (c .steps) (c .drawing)
 
--- those left at its counters
+-- 01, State image: those left at its counters
 abbrev pub leftIn : Coprocessor → ℕ
 leftIn c = leftOf (c .dimensions) (c .steps) (c .drawing)

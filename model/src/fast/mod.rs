@@ -31,7 +31,7 @@ pub fn run(coprocessor: &mut Coprocessor, memory: &mut [u8], allowance: u32) -> 
 }
 
 /// Positions one after another, until the allowance or the drawing ends.
-fn draw(coprocessor: &mut Coprocessor, memory: &mut [u8], allowance: u32) -> (u32, u32) {
+pub(crate) fn draw(coprocessor: &mut Coprocessor, memory: &mut [u8], allowance: u32) -> (u32, u32) {
     let Some(setup) = Setup::of(coprocessor) else {
         return (NONE, 0);
     };
@@ -61,34 +61,4 @@ fn draw(coprocessor: &mut Coprocessor, memory: &mut [u8], allowance: u32) -> (u3
     pen.put_back(&mut coprocessor.registers);
     coprocessor.drawing = end.unwrap_or_else(|| stretch.drawing(&setup, pen.done));
     (refusal, done)
-}
-
-#[cfg(test)]
-mod tests {
-    use super::*;
-
-    #[test]
-    fn refusal_11_leaves_what_earlier_positions_did_and_makes_the_drawing_idle() {
-        let (mut coprocessor, _) = Coprocessor::fresh(8);
-        let writes = [
-            (0x12, 1, 1),
-            (0x18, 2, 7),
-            (0x1C, 1, 3),
-            (0x48, 1, 3),
-            (0x4A, 1, 4),
-            (0x50, 4, 0xFF),
-            (0x58, 4, 0xAA),
-            (0x60, 2, 7),
-            (0x7C, 4, 0x0801_8000),
-        ];
-        for (offset, length, value) in writes {
-            assert_eq!(coprocessor.write(offset, length, value), NONE);
-        }
-        // A run refuses such a memory with 9, so only the loop inside it can be lent one.
-        let mut memory = [0; 3];
-        assert_eq!(draw(&mut coprocessor, &mut memory, 9), (11, 3));
-        assert_eq!(memory, [0xAA; 3]);
-        assert_eq!(coprocessor.drawing, Drawing::Nothing { stopped: false });
-        assert_eq!(coprocessor.registers.destination_x, 3);
-    }
 }

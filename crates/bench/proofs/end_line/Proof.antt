@@ -4,7 +4,7 @@ use borrow.Author.Needs.{needs}
 use Rattle.lines.specs.declared.Call.{Call}
 use Rattle.answers.specs.declared.Told.{Told}
 use Rattle.answers.specs.Answers.{toldOf, memoryAfter}
-use Rattle.bench.specs.Session.{sessionOf, lineEnded}
+use Rattle.bench.specs.Inner.{sessionOf, lineEnded}
 use Rattle.bench.proofs.end_line.Statement.{statement}
 use Rattle.bench.proofs.end_line.Tie as tie
 

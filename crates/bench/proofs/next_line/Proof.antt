@@ -1,7 +1,7 @@
 -- `next_line` is the definition on both sides of its test.
 use borrow.Author.Tests.{lt-ltb, le-ltb}
 use borrow.Author.Needs.{needs}
-use Rattle.bench.specs.Session.{lineAfter}
+use Rattle.bench.specs.Printed.{lineAfter}
 use Rattle.bench.proofs.next_line.Statement.{statement}
 use Rattle.bench.proofs.next_line.Tie as tie
 

@@ -1,7 +1,7 @@
 -- `take_byte` ends the line at a newline, and gathers any other byte.
 use borrow.Author.Tests.{eq-eqb, ne-eqb}
 use borrow.Author.Needs.{needs}
-use Rattle.bench.specs.Session.{sessionOf, byteGathered, byteTaken}
+use Rattle.bench.specs.Inner.{sessionOf, byteGathered, byteTaken}
 use Rattle.bench.proofs.take_byte.Statement.{statement}
 use Rattle.bench.proofs.take_byte.Tie as tie
 

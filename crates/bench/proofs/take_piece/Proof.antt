@@ -4,7 +4,7 @@ use Prim.Native.Nat.{_-_, _≤_}
 use native.Mathlib.Omega.{arith}
 use lib.ListN.{length, drop}
 use borrow.Author.Needs.{needs}
-use Rattle.bench.specs.Session.{sessionOf, bytesTaken}
+use Rattle.bench.specs.Inner.{sessionOf, bytesTaken}
 use Rattle.bench.proofs.SessionLaws.{bytes-on, bytes-end}
 use Rattle.bench.proofs.take_piece.Statement.{statement}
 use Rattle.bench.proofs.take_piece.Tie as tie

@@ -1,5 +1,6 @@
 -- `find` is the definition, with each part of it found once.
-use Rattle.pixels.specs.Pixels.{byteAt, foundAt}
+use Rattle.pixels.specs.Pixels.{byteAt}
+use Rattle.pixels.specs.Inner.{foundAt}
 use borrow.Author.Needs.{needs}
 use Rattle.pixels.proofs.find.Statement.{statement}
 use Rattle.pixels.proofs.find.Tie as tie

@@ -1,5 +1,6 @@
 -- `get` is the pixel: the field that is found of its byte, 0 beyond the memory.
-use Rattle.pixels.specs.Pixels.{foundAt, pixelAt}
+use Rattle.pixels.specs.Pixels.{pixelAt}
+use Rattle.pixels.specs.Inner.{foundAt}
 use Rattle.pixels.proofs.Pixels.{found-in-byte}
 use borrow.Author.Needs.{needs}
 use Rattle.pixels.proofs.get.Statement.{statement}

@@ -1,5 +1,6 @@
 -- `put` leaves memory with another pixel: the byte that is found is set, with another field.
-use Rattle.pixels.specs.Pixels.{foundAt, withPixel}
+use Rattle.pixels.specs.Pixels.{withPixel}
+use Rattle.pixels.specs.Inner.{foundAt}
 use Rattle.pixels.proofs.Pixels.{found-in-byte}
 use borrow.Author.Needs.{needs}
 use Rattle.pixels.proofs.put.Statement.{statement}

@@ -9,7 +9,7 @@ use native.Mathlib.Omega.{arith}
 use lib.ListN.{length}
 use borrow.Author.Needs.{needs}
 use borrow.Author.Tests.{not-true, not-false}
-use Rattle.position.specs.Beyond.{isSafe}
+use Rattle.position.specs.Inner.{isSafe}
 use Rattle.position.proofs.Safety.{safe-moved}
 use Rattle.runs.proofs.run.Statement.{statement}
 use Rattle.runs.proofs.run.Tie as tie

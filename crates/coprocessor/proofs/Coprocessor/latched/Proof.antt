@@ -1,11 +1,11 @@
 -- `latched` stores the write in every register that it touches: the records agree field by field.
-use Rattle.coprocessor.specs.Writes.{merged}
+use Rattle.coprocessor.specs.Writes.{stored}
 use borrow.Author.Needs.{needs}
 use Rattle.coprocessor.proofs.Coprocessor.latched.Statement.{statement}
 use Rattle.coprocessor.proofs.Coprocessor.latched.Tie as tie
 
-take-two-bits-requires : tie.Need-take-two-bits-requires
-take-two-bits-requires c κs = search needs
+take-bits-requires : tie.Need-take-bits-requires
+take-bits-requires c κs = search needs
 
 latch-maps-requires : tie.Need-latch-maps-requires
 latch-maps-requires c κs = search needs
@@ -50,14 +50,14 @@ take-word-requires-4 : tie.Need-take-word-requires-4
 take-word-requires-4 c κs = search needs
 
 returns : tie.Need-returns
-unfolding merged
-returns c = λ i. record { size = c .before .before .before .before .before .before .before .before .before .before .before .before .before .before .before .before .before .before .before .before .before .before .before .before .before .args .self .size; index = c .before .before .before .before .before .before .before .before .before .before .before .before .before .before .take-two-bits .ensures i; maps = c .before .before .before .before .before .before .before .before .before .before .before .before .before .latch-maps .ensures i; terms = c .before .before .before .before .before .before .before .before .before .before .before .before .latch-terms .ensures i; steps = c .before .before .before .before .before .before .before .before .before .before .before .take-word .ensures i; foreground = c .before .before .before .before .before .before .before .before .before .before .latch-ink .ensures i; background = c .before .before .before .before .before .before .before .before .before .latch-ink2 .ensures i; compare = c .before .before .before .before .before .before .before .before .latch-compare .ensures i; planes = c .before .before .before .before .before .before .before .take-word2 .ensures i; carries = c .before .before .before .before .before .before .take-word3 .ensures i; dimensions = c .before .before .before .before .before .latch-point .ensures i; origin = c .before .before .before .before .latch-point2 .ensures i; source = c .before .before .before .latch-point3 .ensures i; pattern = c .before .before .latch-point4 .ensures i; destination = c .before .latch-spot .ensures i; operations = c .take-word4 .ensures i; drawing = c .before .before .before .before .before .before .before .before .before .before .before .before .before .before .before .before .before .before .before .before .before .before .before .before .before .args .self .drawing }
+unfolding stored
+returns c = λ i. record { size = c .before .before .before .before .before .before .before .before .before .before .before .before .before .before .before .before .before .before .before .before .before .before .before .before .before .args .self .size; index = c .before .before .before .before .before .before .before .before .before .before .before .before .before .before .take-bits .ensures i; maps = c .before .before .before .before .before .before .before .before .before .before .before .before .before .latch-maps .ensures i; terms = c .before .before .before .before .before .before .before .before .before .before .before .before .latch-terms .ensures i; steps = c .before .before .before .before .before .before .before .before .before .before .before .take-word .ensures i; foreground = c .before .before .before .before .before .before .before .before .before .before .latch-ink .ensures i; background = c .before .before .before .before .before .before .before .before .before .latch-ink2 .ensures i; compare = c .before .before .before .before .before .before .before .before .latch-compare .ensures i; planes = c .before .before .before .before .before .before .before .take-word2 .ensures i; carries = c .before .before .before .before .before .before .take-word3 .ensures i; dimensions = c .before .before .before .before .before .latch-point .ensures i; origin = c .before .before .before .before .latch-point2 .ensures i; source = c .before .before .before .latch-point3 .ensures i; pattern = c .before .before .latch-point4 .ensures i; destination = c .before .latch-spot .ensures i; operations = c .take-word4 .ensures i; drawing = c .before .before .before .before .before .before .before .before .before .before .before .before .before .before .before .before .before .before .before .before .before .before .before .before .before .args .self .drawing }
 
 pub latched-spec : {M : Type 1} → statement M
 latched-spec =
     tie.close
     (tie.spec
-    take-two-bits-requires
+    take-bits-requires
     latch-maps-requires
     latch-terms-requires
     take-word-requires

@@ -1,6 +1,7 @@
 -- `starts` says whether the write starts a drawing: the two bytes and the functions that each starts.
 use Rattle.coprocessor.specs.Writes.{startsBy}
 use borrow.Author.Needs.{needs}
+use Rattle.parts.proofs.LatchLaws.{touched-one}
 use Rattle.coprocessor.proofs.Coprocessor.starts.Statement.{statement}
 use Rattle.coprocessor.proofs.Coprocessor.starts.Tie as tie
 
@@ -21,7 +22,7 @@ is-codes-requires c κs = search needs
 
 returns : tie.Need-returns
 unfolding startsBy
-returns c = rw (c .is-codes .ensures, c .before .touches2 .ensures, c .before .before .touches .ensures, c .before .before .before .is-block .ensures, c .before .before .before .before .is-line .ensures)
+returns c = rw (c .is-codes .ensures, c .before .touches2 .ensures, c .before .before .touches .ensures, touched-one 0x7F _, touched-one 0x2F _, c .before .before .before .is-block .ensures, c .before .before .before .before .is-line .ensures)
 
 pub starts-spec : {M : Type 1} → statement M
 starts-spec =

@@ -1,5 +1,4 @@
 -- `words` is the bank as it reads back: each word is its registers' value.
-use Rattle.image.specs.Words.{mapWords, termWords, colourWords, pointerWords, bankOf}
 use Rattle.coprocessor.specs.Reads.{wordsOf}
 use borrow.Author.Needs.{needs}
 use Rattle.coprocessor.proofs.Coprocessor.words.Statement.{statement}
@@ -21,7 +20,7 @@ bank-requires : tie.Need-bank-requires
 bank-requires c κs = search needs
 
 returns : tie.Need-returns
-unfolding mapWords termWords colourWords pointerWords bankOf wordsOf
+unfolding wordsOf
 returns c = rw (c .bank .ensures, c .before .pointer-words .ensures, c .before .before .colour-words .ensures, c .before .before .before .term-words .ensures, c .before .before .before .before .map-words .ensures)
 
 pub words-spec : {M : Type 1} → statement M

@@ -1,6 +1,7 @@
--- `loads` is the test of an image of 115 bytes: mark, version, counters and validity, joined.
+-- `loads` is the test of an image of 115 bytes: mark, version, counters and validity, joined, which is what the rules ask.
 use borrow.Author.Tests.{eq-eqb}
-use Rattle.coprocessor.specs.Images.{loads}
+use Rattle.coprocessor.specs.Inner.{loadsBy}
+use Rattle.coprocessor.proofs.ImageRules.{loads-by}
 use borrow.Author.Needs.{needs}
 use Rattle.coprocessor.proofs.loads.loads.Statement.{statement}
 use Rattle.coprocessor.proofs.loads.loads.Tie as tie
@@ -27,8 +28,8 @@ both-requires-2 : tie.Need-both-requires-2
 both-requires-2 c κs = search needs
 
 returns : tie.Need-returns
-unfolding loads
-returns c = rw (eq-eqb _ _ (c .before .before .before .before .before .before .before .before .pre .0), c .both2 .ensures, c .before .is-valid .ensures, c .before .before .both .ensures, c .before .before .before .is-marked .ensures, c .before .before .before .before .are-same .ensures, c .before .before .before .before .before .counters-of .ensures, c .before .before .before .before .before .before .counters-from .ensures, c .before .before .before .before .before .before .before .before .pre .1)
+unfolding loadsBy
+returns c = rw (← loads-by (c .before .before .before .before .before .before .before .before .args .buffer .now), eq-eqb _ _ (c .before .before .before .before .before .before .before .before .pre .0), c .both2 .ensures, c .before .is-valid .ensures, c .before .before .both .ensures, c .before .before .before .is-marked .ensures, c .before .before .before .before .are-same .ensures, c .before .before .before .before .before .counters-of .ensures, c .before .before .before .before .before .before .counters-from .ensures, c .before .before .before .before .before .before .before .before .pre .1)
 
 pub loads-spec : {M : Type 1} → statement M
 loads-spec =

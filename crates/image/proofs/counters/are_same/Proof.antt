@@ -1,5 +1,5 @@
 -- `are_same` compares the counters: one test a field, joined.
-use Rattle.image.specs.Counters.{sameCounters}
+use Rattle.image.specs.Inner.{sameCounters}
 use borrow.Author.Needs.{needs}
 use Rattle.image.proofs.counters.are_same.Statement.{statement}
 use Rattle.image.proofs.counters.are_same.Tie as tie

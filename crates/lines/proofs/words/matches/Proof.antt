@@ -1,6 +1,6 @@
 -- `matches` asks whether the byte is a blank, or whether it is none.
 use borrow.Author.Needs.{needs}
-use Rattle.lines.specs.Scans.{matches}
+use Rattle.lines.specs.Inner.{matches}
 use Rattle.lines.proofs.words.matches.Statement.{statement}
 use Rattle.lines.proofs.words.matches.Tie as tie
 

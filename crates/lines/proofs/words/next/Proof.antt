@@ -1,6 +1,6 @@
 -- `next` is what follows the word at the start, without its blanks.
 use borrow.Author.Needs.{needs}
-use Rattle.lines.specs.Scans.{nextOf}
+use Rattle.lines.specs.Inner.{nextOf}
 use Rattle.lines.proofs.ScanLaws.{tail, span-le}
 use Rattle.lines.proofs.words.next.Statement.{statement}
 use Rattle.lines.proofs.words.next.Tie as tie

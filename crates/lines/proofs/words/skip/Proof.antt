@@ -1,6 +1,6 @@
 -- `skip` is what is left after the blanks at the start.
 use borrow.Author.Needs.{needs}
-use Rattle.lines.specs.Scans.{skipped}
+use Rattle.lines.specs.Inner.{skipped}
 use Rattle.lines.proofs.ScanLaws.{tail, span-le}
 use Rattle.lines.proofs.words.skip.Statement.{statement}
 use Rattle.lines.proofs.words.skip.Tie as tie

@@ -5,7 +5,7 @@ use native.Mathlib.Omega.{arith}
 use lib.ListN.{length, drop}
 use borrow.Author.Needs.{needs}
 use borrow.Author.Tests.{not-true, not-false}
-use Rattle.lines.specs.Scans.{span}
+use Rattle.lines.specs.Inner.{span}
 use Rattle.lines.proofs.ScanLaws.{span-here, span-one, span-end, span-stop, span-on}
 use Rattle.lines.proofs.words.span.Statement.{statement}
 use Rattle.lines.proofs.words.span.Tie as tie

@@ -2,7 +2,7 @@
 use mathlib.Core.Path.{sym}
 use lib.Seq.{length-take-le}
 use borrow.Author.Needs.{needs}
-use Rattle.lines.specs.Scans.{wordOf}
+use Rattle.lines.specs.Inner.{wordOf}
 use Rattle.lines.proofs.ScanLaws.{span-le}
 use Rattle.lines.proofs.words.word.Statement.{statement}
 use Rattle.lines.proofs.words.word.Tie as tie

@@ -4,7 +4,8 @@ use mir.Syntax.{w32}
 use mir.ValLaws.{toZ-ofZ}
 use borrow.Author.Needs.{needs}
 use Rattle.moves.specs.declared.Way.{Way}
-use Rattle.moves.specs.Moves.{moved, gone}
+use Rattle.moves.specs.Moves.{moved}
+use Rattle.moves.specs.Inner.{gone}
 use Rattle.moves.proofs.passage.next.Statement.{statement}
 use Rattle.moves.proofs.passage.next.Tie as tie
 

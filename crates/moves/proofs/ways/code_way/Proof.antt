@@ -3,7 +3,8 @@ use mir.Syntax.{w32}
 use mir.ValLaws.{toZ-ofZ}
 use borrow.Author.Tests.{lt-ltb, le-ltb}
 use borrow.Author.Needs.{needs}
-use Rattle.moves.specs.Moves.{penGone, codesMoved, gone}
+use Rattle.moves.specs.Moves.{penGone, codesMoved}
+use Rattle.moves.specs.Inner.{gone}
 use Rattle.moves.proofs.ways.code_way.Statement.{statement}
 use Rattle.moves.proofs.ways.code_way.Tie as tie
 

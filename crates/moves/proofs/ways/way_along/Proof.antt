@@ -1,10 +1,10 @@
 -- `way_along` is the definition, part by part: a part of a choice of steps is the choice of their parts.
 use mir.Syntax.{w32}
 use mir.ValLaws.{toZ-ofZ}
+use Rattle.numbers.proofs.Choices.{choose-part}
 use Rattle.moves.specs.declared.Step.{Step}
 use Rattle.moves.specs.declared.Way.the-variants.{Along}
 use Rattle.moves.specs.Moves.{right, sourceBy, destinationBy}
-use Rattle.moves.proofs.Choices.{choose-part}
 use borrow.Author.Needs.{needs}
 use Rattle.moves.proofs.ways.way_along.Statement.{statement}
 use Rattle.moves.proofs.ways.way_along.Tie as tie

@@ -2,7 +2,8 @@
 use mathlib.Core.Path.{_≡_, _∙_, sym, ap}
 use borrow.Author.Needs.{needs}
 use Rattle.parts.specs.declared.drawing.Drawing.{Drawing}
-use Rattle.moves.specs.Moves.{penWith, movedBy, moved, gone}
+use Rattle.moves.specs.Moves.{penWith, movedBy, moved}
+use Rattle.moves.specs.Inner.{gone}
 use Rattle.moves.proofs.ways.way_of.Statement.{statement}
 use Rattle.moves.proofs.ways.way_of.Tie as tie
 

@@ -4,15 +4,15 @@ use Rattle.parts.specs.Shapes.{compareTaken}
 use Rattle.parts.proofs.shapes.latch_compare.Statement.{statement}
 use Rattle.parts.proofs.shapes.latch_compare.Tie as tie
 
-take-three-bits-requires : tie.Need-take-three-bits-requires
-take-three-bits-requires c κs = search needs
+take-bits-requires : tie.Need-take-bits-requires
+take-bits-requires c κs = search needs
 
 take-word-requires : tie.Need-take-word-requires
 take-word-requires c κs = search needs
 
 returns : tie.Need-returns
 unfolding compareTaken
-returns c = λ i. record { condition = c .before .take-three-bits .ensures i; value = c .take-word .ensures i }
+returns c = λ i. record { condition = c .before .take-bits .ensures i; value = c .take-word .ensures i }
 
 pub latch-compare-spec : {M : Type 1} → statement M
-latch-compare-spec = tie.close (tie.spec take-three-bits-requires take-word-requires returns)
+latch-compare-spec = tie.close (tie.spec take-bits-requires take-word-requires returns)

@@ -13,8 +13,8 @@ take-twelve-bits-requires c κs = search needs
 take-twelve-bits-requires-2 : tie.Need-take-twelve-bits-requires-2
 take-twelve-bits-requires-2 c κs = search needs
 
-take-four-bits-requires : tie.Need-take-four-bits-requires
-take-four-bits-requires c κs = search needs
+take-bits-requires : tie.Need-take-bits-requires
+take-bits-requires c κs = search needs
 
 returns : tie.Need-returns
 unfolding mapTaken
@@ -22,7 +22,7 @@ returns c =
     let base = c .before .before .before .take-word .ensures in
     let width = c .before .before .take-twelve-bits .ensures in
     let height = c .before .take-twelve-bits2 .ensures in
-    let format = c .take-four-bits .ensures in
+    let format = c .take-bits .ensures in
     λ i. record { base = base i; width = width i; height = height i; format = format i }
 
 pub latch-map-spec : {M : Type 1} → statement M
@@ -32,5 +32,5 @@ latch-map-spec =
     take-word-requires
     take-twelve-bits-requires
     take-twelve-bits-requires-2
-    take-four-bits-requires
+    take-bits-requires
     returns)

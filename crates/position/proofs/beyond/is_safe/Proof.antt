@@ -1,5 +1,5 @@
 -- `is_safe` is the definition, whose conjunctions are the calls of `both`.
-use Rattle.position.specs.Beyond.{isSafe}
+use Rattle.position.specs.Inner.{isSafe}
 use borrow.Author.Needs.{needs}
 use Rattle.position.proofs.beyond.is_safe.Statement.{statement}
 use Rattle.position.proofs.beyond.is_safe.Tie as tie

@@ -1,7 +1,7 @@
 -- `draw` leaves what is drawn: nothing where the position is left out, and otherwise what is written.
 use mathlib.Core.Path.{_∙_, sym}
 use borrow.Author.Tests.{not-true, not-false}
-use Rattle.position.proofs.Choices.{choose-true, choose-false}
+use Rattle.numbers.proofs.Choices.{choose-true, choose-false}
 use Rattle.position.proofs.Writing.{drawn-in}
 use borrow.Author.Needs.{needs}
 use Rattle.position.proofs.drawn.draw.Statement.{statement}

@@ -4,8 +4,8 @@ use mathlib.Core.Path.{_∙_, sym, ap}
 use Prim.Native.Nat.{ℕ}
 use lib.Dec.{eqb}
 use borrow.Author.Needs.{needs}
+use Rattle.numbers.proofs.Choices.{choose-true, choose-false}
 use Rattle.position.specs.Drawn.{isForeground}
-use Rattle.position.proofs.Choices.{choose-true, choose-false}
 use Rattle.position.proofs.drawn.is_foreground.Statement.{statement}
 use Rattle.position.proofs.drawn.is_foreground.Tie as tie
 

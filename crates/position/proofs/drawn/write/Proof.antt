@@ -1,11 +1,13 @@
 -- `write` leaves what is written: the pixel that is found is the destination's, for the condition, for the mix and for the byte that is set.
 use mathlib.Core.Path.{_≡_, _∙_, sym}
 use borrow.Author.Tests.{not-true, not-false}
-use Rattle.pixels.specs.Pixels.{foundAt, pixelAt, withPixel}
+use Rattle.numbers.proofs.Choices.{choose-true, choose-false}
+use Rattle.pixels.specs.Pixels.{pixelAt, withPixel}
+use Rattle.pixels.specs.Inner.{foundAt}
 use Rattle.pixels.proofs.Pixels.{found-in-byte}
 use Rattle.position.specs.Fates.{destinationPixel, isCompared}
-use Rattle.position.specs.Drawn.{mixedPixel, writtenOf}
-use Rattle.position.proofs.Choices.{choose-true, choose-false}
+use Rattle.position.specs.Drawn.{mixedPixel}
+use Rattle.position.specs.Inner.{writtenOf}
 use borrow.Author.Needs.{needs}
 use Rattle.position.proofs.drawn.write.Statement.{statement}
 use Rattle.position.proofs.drawn.write.Tie as tie

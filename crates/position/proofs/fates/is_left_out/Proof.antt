@@ -2,7 +2,7 @@
 use mathlib.Core.Path.{_≡_, _∙_, sym, ap}
 use mathlib.Core.Bool.{false, not}
 use Rattle.position.specs.Places.{onMap, isMove, isNulled}
-use Rattle.position.specs.Fates.{isLeftOut}
+use Rattle.position.specs.Inner.{isLeftOut}
 use borrow.Author.Needs.{needs}
 use Rattle.position.proofs.fates.is_left_out.Statement.{statement}
 use Rattle.position.proofs.fates.is_left_out.Tie as tie

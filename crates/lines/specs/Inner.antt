@@ -1,4 +1,4 @@
--- How a line is passed through: the blanks and the word at its start, and what follows.
+-- How the code asks it: what functions inside promise each other, proved to be the same as the rules; nothing here has to be believed.
 use mathlib.Core.Bool.{Bool, true, false, not}
 use mathlib.Core.List.{List, [], _∷_}
 use Prim.Native.Nat.{ℕ, suc}

@@ -1,0 +1,13 @@
+-- How the code asks it: what functions inside promise each other, proved to be the same as the rules; nothing here has to be believed.
+use Rattle.moves.specs.declared.Way.{Way}
+use Rattle.moves.specs.declared.Way.the-variants.{Along, Row, Here}
+use Rattle.moves.specs.declared.Setup.{Setup}
+use Rattle.moves.specs.declared.Pen.{Pen}
+use Rattle.moves.specs.Moves.{penStepped, penWith, rowPassed}
+
+-- the pen after going this way: its used pointers stepped, past a row's end, or as it is with another drawing in hand
+unfoldable pub gone : Setup → Way → Pen → Pen
+gone s (Along fromX fromY toX toY e drawing) pen =
+    penStepped s (record { x = fromX; y = fromY }) (record { x = toX; y = toY }) e drawing pen
+gone s (Row drawing) pen = rowPassed s drawing pen
+gone s (Here drawing) pen = penWith drawing pen
