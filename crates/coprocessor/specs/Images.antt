@@ -1,17 +1,17 @@
 -- The state image: the record as 115 bytes, and the record that 115 bytes are.
-use Prim.Native.Nat.{ℕ, suc, _%_}
-use mathlib.Core.Bool.{Bool, _&&_, _||_}
+use Prim.Native.Nat.{ℕ}
+use mathlib.Core.Bool.{Bool, _&&_}
 use mathlib.Core.List.{List}
 use lib.ListN.{length}
-use lib.Dec.{leb, ltb, eqb}
+use lib.Dec.{leb, eqb}
 use Rattle.numbers.specs.Choose.{choose}
 use Rattle.parts.specs.declared.refusals.Refusal.{Refusal}
 use Rattle.parts.specs.declared.refusals.Refusal.the-variants.{Accepted, Image}
 use Rattle.parts.specs.declared.shapes.Point.{Point}
+use Rattle.parts.specs.declared.drawing.Drawing.the-variants.{Line, Codes, Block}
 use Rattle.parts.specs.Refusals.{isAccepted}
-use Rattle.rules.specs.Operations.{isLine, isCodes, isBlock}
-use Rattle.rules.specs.Starts.{codeAt}
-use Rattle.rules.specs.Going.{noneStopped, pointersHold}
+use Rattle.rules.specs.Operations.{isLine, isCodes}
+use Rattle.rules.specs.Going.{countersHold, pointersHold}
 use Rattle.image.specs.Counters.{countersOf, drawingOf}
 use Rattle.image.specs.Fields.{Field, laid, fieldsBy}
 use Rattle.image.specs.Places.{at, inkFrom, pointFrom, spotFrom, mapsFrom, termsFrom, compareFrom, countersFrom}
@@ -62,17 +62,14 @@ loaded b =
 unfoldable pub zeroCounters : List ℕ → Bool
 zeroCounters b = eqb (at 10 2 b) 0 && eqb (at 12 2 b) 0 && eqb (at 14 1 b) 0
 
--- 01, State image: for a function that draws, a position remains at the counters, counters not of that function are zero (12 too for a line), codes number 1, 2 or 4, and none up to the current one is 00
+-- 01, State image: for a function that draws, a position remains at the counters, and counters not of that function are zero (12 too for a line)
 unfoldable pub remains : ℕ → Point → ℕ → List ℕ → Bool
 remains operations dimensions steps b =
     choose (isLine operations)
-    (leb (at 10 2 b) (dimensions .x) && eqb (at 12 2 b) 0 && eqb (at 14 1 b) 0)
+    (countersHold operations dimensions steps (Line (at 10 2 b)) && eqb (at 12 2 b) 0 && eqb (at 14 1 b) 0)
     (choose (isCodes operations)
-    ((eqb (at 14 1 b) 1 || eqb (at 14 1 b) 2 || eqb (at 14 1 b) 4)
-    && ltb (at 12 2 b) (at 14 1 b)
-    && noneStopped steps (at 14 1 b) (suc (at 12 2 b))
-    && leb (at 10 2 b) (codeAt steps (at 14 1 b) (at 12 2 b) % 16))
-    (isBlock operations && leb (at 10 2 b) (dimensions .x) && leb (at 12 2 b) (dimensions .y) && eqb (at 14 1 b) 0))
+    (countersHold operations dimensions steps (Codes (at 14 1 b) (at 12 2 b) (at 10 2 b)))
+    (countersHold operations dimensions steps (Block (at 10 2 b) (at 12 2 b)) && eqb (at 14 1 b) 0))
 
 -- 01, State image: accepted exactly when mark and version hold, the size is within its limit, the state is 0, 1 or 2, and every reduction holds; in state 1 the start rules hold, a position remains, and used pointers lie in their maps; in the others bytes 10-14 are zero
 unfoldable pub loads : List ℕ → Bool

@@ -54,13 +54,6 @@ repeated f zero x = x
 repeated f (suc k) x = f (repeated f k x)
 
 module _ (last : ℕ) where
-  -- a pointer that moves comes inside from anywhere
-  pub turned-into : (t : Turn) (k x : ℕ) → (t ≡ Stay → ⊥) → turnedBy t k last x ≤ last
-  unfolding turnedBy
-  turned-into Stay k x moves = absurd (moves refl)
-  turned-into Forth k x moves = omega (arith, forth-lt (last + 1) k x (omega arith))
-  turned-into Back k x moves = omega (arith, back-lt (last + 1) k x (omega arith))
-
   pub turned-in : (t : Turn) (k x : ℕ) → x ≤ last → turnedBy t k last x ≤ last
   unfolding turnedBy
   turned-in Stay k x h = h

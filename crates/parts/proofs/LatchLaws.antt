@@ -1,4 +1,4 @@
--- The laws of a register in a write: one that the write does not touch stays, and one that it touches is below its bound, whichever way the choice goes.
+-- The laws of a register in a write: one that the write does not touch stays, since none of its bytes is covered, and any stays below its bound.
 use mathlib.Core.Path.{_≡_, refl, _∙_}
 use mathlib.Core.Bool.{Bool, true, false, true≢false, and-eq-true-iff}
 use mathlib.Core.Logic.{⊎-elim}
@@ -6,7 +6,6 @@ use Prim.Native.Nat.{ℕ, _+_, _-_, _^_, _≤_, _<_}
 use native.Mathlib.Nat.{mod-lt, mod-eq-of-lt}
 use native.Mathlib.Omega.{arith}
 use lib.Dec.{leb, ltb}
-use lib.IntN.{ℤ}
 use lib.Pow.{pow-pos}
 use borrow.Author.Tests.{leb-true, ltb-true, le-leb, lt-leb, lt-ltb, le-ltb}
 use Rattle.numbers.specs.Bytes.{covers, latched}
@@ -14,7 +13,7 @@ use Rattle.numbers.specs.declared.bytes.Write.{Write}
 use Rattle.numbers.proofs.ByteLaws.{latched-lt, latched-uncovered}
 use Rattle.numbers.proofs.Choices.{choose-either}
 use Rattle.numbers.proofs.Order.{lt-or-le}
-use Rattle.parts.specs.Latches.{touched, taken, takenLow, takenTerm, takenDestination}
+use Rattle.parts.specs.Latches.{touched, taken, takenLow}
 
 -- ---- a register of one byte
 
@@ -51,21 +50,9 @@ module _ (n at : ℕ) (w : Write) (apart : touched n at w ≡ false) where
   pub latched-apart : (stored : ℕ) → stored < 256 ^ n → latched n at w stored ≡ stored
   latched-apart stored h = latched-uncovered n at w stored uncovered ∙ mod-eq-of-lt h
 
-  pub taken-untouched : (stored : ℕ) → taken n at w stored ≡ stored
-  unfolding taken
-  taken-untouched stored = rw apart
-
   pub low-untouched : (bits stored : ℕ) → takenLow bits n at w stored ≡ stored
   unfolding takenLow
   low-untouched bits stored = rw apart
-
-pub term-untouched : (at : ℕ) (w : Write) → touched 4 at w ≡ false → (z : ℤ) → takenTerm at w z ≡ z
-unfolding takenTerm
-term-untouched at w apart z = rw apart
-
-pub destination-untouched : (at : ℕ) (w : Write) → touched 2 at w ≡ false → (z : ℤ) → takenDestination at w z ≡ z
-unfolding takenDestination
-destination-untouched at w apart z = rw apart
 
 -- ---- a register after any write
 

@@ -1,6 +1,8 @@
--- Every refusal has a number above 0, and what is accepted has 0.
-use mathlib.Core.Path.{_≡_, refl}
+-- Every refusal has a number above 0, and what is accepted has 0; so where a ladder of refusals is accepted, each of its tests was passed.
+use mathlib.Core.Path.{_≡_, refl, sym, _∙_}
+use mathlib.Core.Bool.{Bool, true, false, false≢true}
 use lib.Dec.{eqb}
+use Rattle.numbers.specs.Choose.{choose}
 use Rattle.parts.specs.declared.refusals.Refusal.{Refusal}
 use Rattle.parts.specs.declared.refusals.Refusal.the-variants.{Accepted, Place, Unfinished, Unlisted, Function, Fields, Mixes, Formats, Ends, Size, Image, Beyond}
 use Rattle.parts.specs.Refusals.{numberOf, isAccepted}
@@ -18,3 +20,9 @@ number-accepted Ends = refl
 number-accepted Size = refl
 number-accepted Image = refl
 number-accepted Beyond = refl
+
+-- a refusal that comes first is not there where the whole is accepted, and the rest is accepted
+pub passed : (t : Bool) (first rest : Refusal) → (t ≡ true → isAccepted first ≡ false) → isAccepted (choose t first rest) ≡ true
+    → (t ≡ false) × (isAccepted rest ≡ true)
+passed true first rest refused e = absurd (false≢true (sym (refused refl) ∙ e))
+passed false first rest refused e = (refl, e)

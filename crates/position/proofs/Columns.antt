@@ -55,12 +55,15 @@ module _ {z : ℤ} {origin : ℕ} (f : SFits w16 z) (h : Fits w16 origin) where
   pub answered : {p : ℤ} → p ≡ toZ w16 (ofZ w16 z) -ℤ pos origin → toZ w32 (ofZ w32 p) ≡ z -ℤ pos origin
   answered e = read-back (rw (toZ-ofZ w16 z f) at e)
 
-  pub place-below : ltZ (z -ℤ pos origin) (pos 0) ≡ true → z -ℤ pos origin ≡ negsuc (mag (z -ℤ pos origin))
-  place-below t = negative (z -ℤ pos origin) t
+  -- what that says below 0, and otherwise
+  pub below : {p : ℤ} → p ≡ toZ w16 (ofZ w16 z) -ℤ pos origin → ltZ (toZ w32 (ofZ w32 p)) (pos 0) ≡ true
+      → z -ℤ pos origin ≡ negsuc (mag (z -ℤ pos origin))
+  below e t = negative (z -ℤ pos origin) (rw (answered e) at t)
 
-  pub place-natural : ltZ (z -ℤ pos origin) (pos 0) ≡ false → z -ℤ pos origin ≡ pos (mag (z -ℤ pos origin))
-  place-natural t = natural (z -ℤ pos origin) t
+  pub natural-from : {p : ℤ} → p ≡ toZ w16 (ofZ w16 z) -ℤ pos origin → ltZ (toZ w32 (ofZ w32 p)) (pos 0) ≡ false
+      → z -ℤ pos origin ≡ pos (mag (z -ℤ pos origin))
+  natural-from e t = natural (z -ℤ pos origin) (rw (answered e) at t)
 
-  pub column-fits : ltZ (z -ℤ pos origin) (pos 0) ≡ false → mag (z -ℤ pos origin) < 2 ^ 16
+  pub column-fits : z -ℤ pos origin ≡ pos (mag (z -ℤ pos origin)) → mag (z -ℤ pos origin) < 2 ^ 16
   unfolding columnOf
-  column-fits t = omega (arith, ap columnOf (place-natural t), column-le z origin, f .sfits)
+  column-fits e = omega (arith, ap columnOf e, column-le z origin, f .sfits)

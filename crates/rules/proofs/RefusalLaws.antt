@@ -1,20 +1,14 @@
 -- A start is accepted exactly where its four rules hold: a rule that fails answers before Accepted is reached.
-use mathlib.Core.Path.{_≡_, refl, sym, ap, _∙_}
-use mathlib.Core.Bool.{Bool, true, false, not, false≢true}
+use mathlib.Core.Path.{_≡_, refl, ap}
+use mathlib.Core.Bool.{true, not}
 use mathlib.Core.List.{List}
 use Prim.Native.Nat.{ℕ}
-use Rattle.numbers.specs.Choose.{choose}
+use borrow.Author.Tests.{not-false}
 use Rattle.pixels.specs.declared.Map.{Map}
-use Rattle.parts.specs.declared.refusals.Refusal.{Refusal}
-use Rattle.parts.specs.declared.refusals.Refusal.the-variants.{Accepted, Fields, Mixes, Formats, Ends}
+use Rattle.parts.specs.declared.refusals.Refusal.the-variants.{Accepted}
 use Rattle.parts.specs.Refusals.{isAccepted}
+use Rattle.parts.proofs.RefusalLaws.{passed}
 use Rattle.rules.specs.Rules.{fieldsHold, mixesHold, formatsHold, endsHold, startRefusal}
-
--- where a rule's own refusal would not be Accepted, Accepted says that the rule holds, and the rest answers
-passed : (rule : Bool) (refusal rest : Refusal) → isAccepted refusal ≡ false → choose (not rule) refusal rest ≡ Accepted
-    → (rule ≡ true) × (rest ≡ Accepted)
-passed true refusal rest n e = (refl, e)
-passed false refusal rest n e = absurd (false≢true (sym n ∙ ap isAccepted e))
 
 module _ (operations foreground background : ℕ) (maps : List Map) (size : ℕ) where
   -- the four rules of a start
@@ -31,8 +25,9 @@ module _ (operations foreground background : ℕ) (maps : List Map) (size : ℕ)
   pub accepted-holds : startRefusal operations foreground background maps size ≡ Accepted → Holds
   unfolding startRefusal
   accepted-holds e =
-      let fields = passed (fieldsHold operations) Fields _ refl e in
-      let mixes = passed (mixesHold foreground background) Mixes _ refl (fields .1) in
-      let formats = passed (formatsHold operations maps) Formats _ refl (mixes .1) in
-      let ends = passed (endsHold operations maps size) Ends _ refl (formats .1) in
-      record { fields = fields .0; mixes = mixes .0; formats = formats .0; ends = ends .0 }
+      let fields = passed (not (fieldsHold operations)) _ _ (λ t. refl) (ap isAccepted e) in
+      let mixes = passed (not (mixesHold foreground background)) _ _ (λ t. refl) (fields .1) in
+      let formats = passed (not (formatsHold operations maps)) _ _ (λ t. refl) (mixes .1) in
+      let ends = passed (not (endsHold operations maps size)) _ _ (λ t. refl) (formats .1) in
+      record
+      { fields = not-false _ (fields .0); mixes = not-false _ (mixes .0); formats = not-false _ (formats .0); ends = not-false _ (ends .0) }

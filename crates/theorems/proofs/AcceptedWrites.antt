@@ -1,12 +1,11 @@
 -- What an accepted write says of the write and the record: each test that could refuse it was passed, in the order of the refusals; so what a write leaves is one of three records.
-use mathlib.Core.Path.{_≡_, refl, sym, _∙_}
-use mathlib.Core.Bool.{Bool, true, false, not, _&&_, _||_, false≢true}
-use Rattle.numbers.specs.Choose.{choose}
+use mathlib.Core.Path.{_≡_, refl}
+use mathlib.Core.Bool.{Bool, true, false, not, _&&_, _||_}
 use Rattle.numbers.specs.Bytes.{covers}
 use Rattle.numbers.specs.declared.bytes.Write.{Write}
 use Rattle.numbers.proofs.Choices.{by-test}
-use Rattle.parts.specs.declared.refusals.Refusal.{Refusal}
 use Rattle.parts.specs.Refusals.{isAccepted}
+use Rattle.parts.proofs.RefusalLaws.{passed}
 use Rattle.parts.specs.Drawings.{unfinished}
 use Rattle.parts.specs.Registers.{placed, listed}
 use Rattle.rules.specs.Operations.{isLine, isCodes, isBlock, draws}
@@ -14,12 +13,6 @@ use borrow.Author.Tests.{not-true, not-false}
 use Rattle.coprocessor.specs.declared.Coprocessor.{Coprocessor}
 use Rattle.coprocessor.specs.Valid.{startRefusalOf, validOf}
 use Rattle.coprocessor.specs.Writes.{stored, startsBy, started, startedRefusal, writeRefusal, settledBy, writeAnswer}
-
--- a refusal that comes first is not there where the whole is accepted, and the rest is accepted
-pub passed : (t : Bool) (first rest : Refusal) → (t ≡ true → isAccepted first ≡ false) → isAccepted (choose t first rest) ≡ true
-    → (t ≡ false) × (isAccepted rest ≡ true)
-passed true first rest refused e = absurd (false≢true (sym (refused refl) ∙ e))
-passed false first rest refused e = (refl, e)
 
 module _ (w : Write) (c : Coprocessor) where
   -- 01, Numbers a call answers with: none of 1, 2, 3, 5 to 8 and 10

@@ -19,6 +19,7 @@ use Rattle.pixels.specs.declared.Map.{Map}
 use Rattle.parts.specs.declared.shapes.Point.{Point}
 use Rattle.parts.specs.declared.shapes.Spot.{Spot}
 use Rattle.parts.specs.Refusals.{isAccepted}
+use Rattle.parts.proofs.RefusalLaws.{passed}
 use Rattle.parts.specs.Registers.{registers, placed, listed}
 use Rattle.parts.specs.Reduced.{pointReduced}
 use Rattle.rules.specs.Maps.{mapAt}
@@ -31,8 +32,7 @@ use Rattle.coprocessor.specs.Images.{fieldsOf, imageOf}
 use Rattle.coprocessor.proofs.PlaceLaws.{placed-known}
 use Rattle.theorems.specs.Held.{Held}
 use Rattle.theorems.specs.ReadBack.{storedOf}
-use Rattle.theorems.specs.Bank.{laidAt, bankBytes, readBytes, counterBytes, mapBytes, rangesOf, imageBytes}
-use Rattle.theorems.proofs.AcceptedWrites.{passed}
+use Rattle.theorems.specs.Bank.{laidAt, bankBytes, readBytes, rangesOf, imageBytes}
 use Rattle.theorems.proofs.ValidFields as valid
 
 -- ---- the bytes of a word
@@ -152,7 +152,7 @@ module _ (c : Coprocessor) (held : Held c) (v : validOf c ≡ true) where
 
 -- 01, State image: the bytes of the image are those that the paper lists, the registers as ranges of the bank
 pub image-bytes : (c : Coprocessor) → Held c → validOf c ≡ true → imageOf c ≡ imageBytes c
-unfolding imageOf laid fieldsOf fieldsBy headFields counterFields mapsFields mapFields bankFields wordFields le wordBytes wordsOf mapWords termWords colourWords pointerWords bankOf counterBytes mapBytes rangesOf imageBytes
+unfolding imageOf laid fieldsOf fieldsBy headFields counterFields mapsFields mapFields bankFields wordFields le wordBytes wordsOf mapWords termWords colourWords pointerWords bankOf rangesOf imageBytes
 image-bytes c held v = rw (bank-words c held v)
 
 -- 01, Registers: every accepted read, also of a part of a register or of two at once, gives the bytes of the bank

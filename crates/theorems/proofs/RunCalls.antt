@@ -5,7 +5,7 @@ use mathlib.Core.List.{List}
 use Prim.Native.Nat.{ℕ, _+_, min}
 use lib.ListN.{length}
 use lib.Dec.{eqb}
-use borrow.Author.Tests.{eqb-true, eq-eqb}
+use borrow.Author.Tests.{eqb-true, eq-eqb, not-false}
 use Rattle.numbers.specs.Choose.{choose}
 use Rattle.parts.specs.declared.refusals.Refusal.the-variants.{Accepted, Size, Image, Beyond}
 use Rattle.parts.specs.Refusals.{isAccepted}
@@ -16,7 +16,7 @@ use Rattle.coprocessor.specs.declared.Coprocessor.{Coprocessor}
 use Rattle.coprocessor.specs.declared.Drawn.{Drawn}
 use Rattle.coprocessor.specs.Valid.{validOf}
 use Rattle.coprocessor.specs.Runs.{setupOf, penOf, withPen, ranOf, runRefusal, runAnswer, runMemory}
-use Rattle.coprocessor.proofs.WriteLaws.{accepted-test}
+use Rattle.parts.proofs.RefusalLaws.{passed}
 use Rattle.theorems.specs.Totals.{leftIn}
 use Rattle.theorems.proofs.RunValid.{setup-kept, pen-kept, with-pen-twice, valid-counters, ran-valid}
 
@@ -48,13 +48,13 @@ refusal-none c memory = by (eqb (length memory) (c .size)) (validOf c)
 -- what an accepted run says of its record and memory
 pub accepted-length : (c : Coprocessor) (memory : List ℕ) → runRefusal c memory ≡ Accepted → length memory ≡ c .size
 unfolding runRefusal
-accepted-length c memory accepted = eqb-true (length memory) (c .size) (accepted-test (eqb (length memory) (c .size)) Size _ refl (ap isAccepted accepted))
+accepted-length c memory accepted = eqb-true (length memory) (c .size) (not-false _ (passed (not (eqb (length memory) (c .size))) _ _ (λ t. refl) (ap isAccepted accepted) .0))
 
 pub accepted-valid : (c : Coprocessor) (memory : List ℕ) → runRefusal c memory ≡ Accepted → validOf c ≡ true
 unfolding runRefusal
 accepted-valid c memory accepted =
-    let same = eq-eqb (length memory) (c .size) (accepted-length c memory accepted) in
-    accepted-test (validOf c) Image Accepted refl (simp same at (ap isAccepted accepted))
+    let size = passed (not (eqb (length memory) (c .size))) _ _ (λ t. refl) (ap isAccepted accepted) in
+    not-false _ (passed (not (validOf c)) _ _ (λ t. refl) (size .1) .0)
 
 pub accepts : (c : Coprocessor) (memory : List ℕ) → length memory ≡ c .size → validOf c ≡ true → runRefusal c memory ≡ Accepted
 unfolding runRefusal

@@ -55,10 +55,6 @@ pub with-pen-own : (c : Coprocessor) → withPen c (penOf c) ≡ c
 unfolding withPen penOf
 with-pen-own c = refl
 
-pub start-kept : (c : Coprocessor) (pen : Pen) → startRefusalOf (withPen c pen) ≡ startRefusalOf c
-unfolding startRefusalOf withPen
-start-kept c pen = refl
-
 -- ---- pointers inside a reduced map
 
 -- the map that a field names is one of the four

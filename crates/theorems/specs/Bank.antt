@@ -4,11 +4,9 @@ use mathlib.Core.List.{List, [], _∷_, _++_}
 use lib.ListN.{replicate, take, drop}
 use lib.Seq.{sets}
 use Rattle.numbers.specs.Bytes.{le, numberOf}
-use Rattle.pixels.specs.declared.Map.{Map}
 use Rattle.parts.specs.Registers.{Register, registers}
-use Rattle.rules.specs.Maps.{mapAt}
-use Rattle.image.specs.declared.counters.Counters.{Counters}
 use Rattle.image.specs.Counters.{countersOf}
+use Rattle.image.specs.Fields.{laid, headFields, mapsFields}
 use Rattle.coprocessor.specs.declared.Coprocessor.{Coprocessor}
 use Rattle.theorems.specs.ReadBack.{storedOf}
 
@@ -26,23 +24,11 @@ bankBytes c = laidAt registers (storedOf c) (replicate 128 0)
 unfoldable pub readBytes : Coprocessor → (offset length : ℕ) → ℕ
 readBytes c offset length = numberOf (take length (drop offset (bankBytes c)))
 
--- 01, State image: 9 state, 10 positions done, 12 rows or codes done, 14 codes
-unfoldable pub counterBytes : Counters → List ℕ
-counterBytes k = le 1 (k .state) ++ le 2 (k .done) ++ le 2 (k .gone) ++ le 1 (k .count)
-
--- 01, State image: nine bytes for each map
-unfoldable pub mapBytes : Map → List ℕ
-mapBytes m = le 4 (m .base) ++ le 2 (m .width) ++ le 2 (m .height) ++ le 1 (m .format)
-
 -- 01, State image: 52 registers 20-2F hex; 68 48-4A; 71 4C-63; 95 6C-7F
 unfoldable pub rangesOf : List ℕ → List ℕ
 rangesOf bank = take 16 (drop 0x20 bank) ++ take 3 (drop 0x48 bank) ++ take 24 (drop 0x4C bank) ++ take 20 (drop 0x6C bank)
 
--- 01, State image: 0 mark XGS; 3 version 1; 5 memory size; 9 to 14 the drawing; 15 map index; 16 maps M, A, B, C; 52 to 114 registers
+-- 01, State image: mark to map index, the four maps, and from 52 on the registers
 unfoldable pub imageBytes : Coprocessor → List ℕ
 imageBytes c =
-    le 3 0x534758 ++ le 2 1 ++ le 4 (c .size)
-    ++ counterBytes (countersOf (c .drawing))
-    ++ le 1 (c .index)
-    ++ mapBytes (mapAt (c .maps) 0) ++ mapBytes (mapAt (c .maps) 1) ++ mapBytes (mapAt (c .maps) 2) ++ mapBytes (mapAt (c .maps) 3)
-    ++ rangesOf (bankBytes c)
+    laid (headFields (countersOf (c .drawing)) (c .size) (c .index) ++ mapsFields (c .maps)) ++ rangesOf (bankBytes c)
