@@ -67,7 +67,7 @@ impl Coprocessor {
 
     /// Does at most `allowance` positions, and answers the refusal and how many it did.
     ///
-    /// Refusals 9 and 10 leave the record and the memory; 11 leaves what earlier positions did and makes the drawing idle.
+    /// A refusal leaves the record and the memory. No position of a valid record reaches beyond the memory; one that did would panic.
     pub fn run(&mut self, memory: &mut [u8], allowance: u32) -> (u32, u32) {
         if memory.len() as u64 != u64::from(self.size) {
             return (Refusal::Size.number(), 0);
@@ -75,7 +75,7 @@ impl Coprocessor {
         if let Err(refusal) = self.check_record() {
             return (refusal.number(), 0);
         }
-        self.draw(memory, allowance)
+        (NONE, self.draw(memory, allowance))
     }
 
     /// Writes the image into a buffer of 115 bytes, and answers the refusal, which leaves the buffer.
@@ -146,51 +146,14 @@ impl Coprocessor {
         Ok(next)
     }
 
-    /// Positions go strictly one after another, until the allowance or the drawing ends.
-    fn draw(&mut self, memory: &mut [u8], allowance: u32) -> (u32, u32) {
+    /// Positions go strictly one after another, until the allowance or the drawing ends: how many it did.
+    pub(crate) fn draw(&mut self, memory: &mut [u8], allowance: u32) -> u32 {
         let mut done = 0;
         while done < allowance && self.drawing.is_unfinished() {
-            if let Err(refusal) = position::draw(&self.registers, &self.drawing, memory) {
-                self.drawing = Drawing::Nothing { stopped: false };
-                return (refusal.number(), done);
-            }
+            position::draw(&self.registers, &self.drawing, memory);
             self.drawing = moves::advance(&mut self.registers, self.drawing);
             done += 1;
         }
-        (NONE, done)
-    }
-}
-
-#[cfg(test)]
-mod tests {
-    use super::*;
-
-    #[test]
-    fn refusal_11_leaves_what_earlier_positions_did_and_makes_the_drawing_idle() {
-        let (mut started, _) = Coprocessor::fresh(8);
-        let writes = [
-            (0x12, 1, 1),
-            (0x18, 2, 7),
-            (0x1C, 1, 3),
-            (0x48, 1, 3),
-            (0x4A, 1, 4),
-            (0x50, 4, 0xFF),
-            (0x58, 4, 0xAA),
-            (0x60, 2, 7),
-            (0x7C, 4, 0x0801_8000),
-        ];
-        for (offset, length, value) in writes {
-            assert_eq!(started.write(offset, length, value), NONE);
-        }
-        for draw in [Coprocessor::draw, crate::fast::draw] {
-            // A run refuses such a memory with 9, so only the loop inside it can be lent one.
-            let mut memory = [0; 3];
-            let mut coprocessor = started.clone();
-            assert_eq!(draw(&mut coprocessor, &mut memory, 9), (11, 3));
-            assert_eq!(memory, [0xAA; 3]);
-            assert_eq!(coprocessor.drawing, Drawing::Nothing { stopped: false });
-            assert_eq!(coprocessor.registers.destination_x, 3);
-            assert!(coprocessor.is_valid());
-        }
+        done
     }
 }

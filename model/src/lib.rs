@@ -17,6 +17,7 @@ pub mod pixels;
 pub mod position;
 pub mod random;
 pub mod random_drawings;
+mod reach;
 pub mod refusals;
 pub mod registers;
 pub mod start;

@@ -6,38 +6,37 @@ use crate::map::Map;
 use crate::mixes;
 use crate::operations::{self, Operations};
 use crate::pixels;
-use crate::refusals::Refusal;
+use crate::reach::{self, Role};
 use crate::registers::Registers;
 
 /// Draws the position at the counters; all its reads come before its write.
 ///
-/// Refusal 11, a byte beyond the memory, leaves the memory.
-pub fn draw(registers: &Registers, drawing: &Drawing, memory: &mut [u8]) -> Result<(), Refusal> {
+/// A pixel beyond the memory panics, before it is read or written.
+pub fn draw(registers: &Registers, drawing: &Drawing, memory: &mut [u8]) {
     let operations = registers.fields();
-    let source = source_pixel(registers, &operations, memory)?;
-    let pattern = pattern_pixel(registers, &operations, source, memory)?;
+    let source = source_pixel(registers, &operations, memory);
+    let pattern = pattern_pixel(registers, &operations, source, memory);
     let (mix, colour) = picked(registers, &operations, pattern, source);
 
     let map = registers.map(operations.destination);
     let x = i64::from(registers.destination_x);
     let y = i64::from(registers.destination_y);
     let Some(place) = map.pixel_at(x, y) else {
-        return Ok(());
+        return;
     };
-    if !mask_allows(registers, &operations, (x, y), memory)? {
-        return Ok(());
+    if !mask_allows(registers, &operations, (x, y), memory) {
+        return;
     }
-    let destination = read(map, place, memory)?;
+    let destination = read(Role::Destination, map, place, memory);
     if compare_holds(registers, map, destination)
         || is_nulled(registers, drawing)
         || is_move_code(registers, drawing)
     {
-        return Ok(());
+        return;
     }
     let planes = registers.plane_mask;
     let new = mixes::mix(mix, map.bits(), planes, colour, destination);
     write(map, place, memory, new);
-    Ok(())
 }
 
 /// Pattern 1 picks foreground source and mix, 0 background: the mix and what it takes as S, of which the low bits count.
@@ -60,16 +59,13 @@ fn picked(registers: &Registers, operations: &Operations, pattern: u32, source: 
 }
 
 /// The source pixel, or 0 if the source map is not used.
-fn source_pixel(
-    registers: &Registers,
-    operations: &Operations,
-    memory: &[u8],
-) -> Result<u32, Refusal> {
+fn source_pixel(registers: &Registers, operations: &Operations, memory: &[u8]) -> u32 {
     if !operations.uses_source() {
-        return Ok(0);
+        return 0;
     }
+    let map = registers.map(operations.source);
     let place = (registers.source_x.into(), registers.source_y.into());
-    read(registers.map(operations.source), place, memory)
+    read(Role::Source, map, place, memory)
 }
 
 /// The pattern pixel: code 8 is always 1, and code 9 is 1 where the source pixel is not 0.
@@ -78,13 +74,13 @@ fn pattern_pixel(
     operations: &Operations,
     source: u32,
     memory: &[u8],
-) -> Result<u32, Refusal> {
+) -> u32 {
     match operations.pattern {
-        operations::PATTERN_FOREGROUND => Ok(1),
-        operations::PATTERN_FROM_SOURCE => Ok(u32::from(source != 0)),
+        operations::PATTERN_FOREGROUND => 1,
+        operations::PATTERN_FROM_SOURCE => u32::from(source != 0),
         map => {
             let place = (registers.pattern_x.into(), registers.pattern_y.into());
-            read(registers.map(map), place, memory)
+            read(Role::Pattern, registers.map(map), place, memory)
         }
     }
 }
@@ -95,7 +91,7 @@ fn mask_allows(
     operations: &Operations,
     (x, y): (i64, i64),
     memory: &[u8],
-) -> Result<bool, Refusal> {
+) -> bool {
     let map = registers.mask_map();
     // docs/DECISIONS.md: the mask pixel is destination - origin.
     let pixel = map.pixel_at(
@@ -103,12 +99,11 @@ fn mask_allows(
         y - i64::from(registers.mask_origin_y),
     );
     match operations.mask {
-        operations::MASK_BOUNDARY => Ok(pixel.is_some()),
-        operations::MASK_ENABLED => match pixel {
-            Some(place) => Ok(read(map, place, memory)? == 1),
-            None => Ok(false),
-        },
-        _ => Ok(true),
+        operations::MASK_BOUNDARY => pixel.is_some(),
+        operations::MASK_ENABLED => {
+            pixel.is_some_and(|place| read(Role::Mask, map, place, memory) == 1)
+        }
+        _ => true,
     }
 }
 
@@ -155,17 +150,39 @@ fn current_code(registers: &Registers, drawing: &Drawing) -> Option<Code> {
     }
 }
 
-/// The pixel of a map, or refusal 11 where it lies beyond the memory.
-fn read(map: &Map, (x, y): (u32, u32), memory: &[u8]) -> Result<u32, Refusal> {
+/// The pixel of a map.
+fn read(role: Role, map: &Map, (x, y): (u32, u32), memory: &[u8]) -> u32 {
+    must_lie_within(role, map, (x, y), memory);
+    pixels::get(memory, map.base, map.row_length(), map.bits(), x, y)
+}
+
+/// Makes the destination's pixel the value.
+fn write(map: &Map, (x, y): (u32, u32), memory: &mut [u8], value: u32) {
+    must_lie_within(Role::Destination, map, (x, y), memory);
+    pixels::put(memory, map.base, map.row_length(), map.bits(), x, y, value);
+}
+
+/// Panics where the pixel of a map lies beyond the memory.
+fn must_lie_within(role: Role, map: &Map, (x, y): (u32, u32), memory: &[u8]) {
     let (base, row_length, bits) = (map.base, map.row_length(), map.bits());
-    if pixels::lies_within(memory.len(), base, row_length, bits, x, y) {
-        Ok(pixels::get(memory, base, row_length, bits, x, y))
-    } else {
-        Err(Refusal::Reach)
+    if !pixels::lies_within(memory.len(), base, row_length, bits, x, y) {
+        reach::fail(role, (x, y), memory.len());
     }
 }
 
-/// Makes the pixel of a map the value.
-fn write(map: &Map, (x, y): (u32, u32), memory: &mut [u8], value: u32) {
-    pixels::put(memory, map.base, map.row_length(), map.bits(), x, y, value);
+#[cfg(test)]
+mod tests {
+    use super::*;
+
+    #[test]
+    #[should_panic(expected = "the destination pixel (5, 0) reaches beyond a memory of 5 bytes")]
+    fn a_write_tests_its_pixel_though_a_read_came_before() {
+        let row = Map {
+            base: 0,
+            width: 7,
+            height: 0,
+            format: 3,
+        };
+        write(&row, (5, 0), &mut [0; 5], 1);
+    }
 }

@@ -23,8 +23,6 @@ pub enum Refusal {
     Size = 9,
     /// A buffer or image that breaks the image rules, or a record that its own image would not load to.
     Image = 10,
-    /// A position's byte lies beyond the memory.
-    Reach = 11,
 }
 
 /// The number of a call that is not refused.

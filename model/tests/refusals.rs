@@ -1,7 +1,7 @@
-//! Refusals 1 to 10 (01, Numbers a call answers with).
+//! Refusals 1 to 10, which are all there are (01, Numbers a call answers with); damaged records are in damaged_records.rs.
 //!
-//! Refusal 11 cannot happen through the calls: the rules of start, load and 10 keep every used map inside the memory.
-//! The branch that gives it is tested beside the code, in src/coprocessor.rs; damaged records are in damaged_records.rs.
+//! The rules of start, load and 10 keep every pixel of a position inside the memory, so no number is needed for one beyond it;
+//! that such a position fails loudly is tested beside the code, in src/reach.rs.
 
 mod common;
 

@@ -13,7 +13,6 @@ mod surfaces;
 mod valid;
 
 use crate::coprocessor::Coprocessor;
-use crate::drawing::Drawing;
 use crate::refusals::{Refusal, NONE};
 use pen::Pen;
 use setup::Setup;
@@ -27,27 +26,22 @@ pub fn run(coprocessor: &mut Coprocessor, memory: &mut [u8], allowance: u32) -> 
     if !valid::is_valid(coprocessor) {
         return (Refusal::Image.number(), 0);
     }
-    draw(coprocessor, memory, allowance)
+    (NONE, draw(coprocessor, memory, allowance))
 }
 
-/// Positions one after another, until the allowance or the drawing ends.
-pub(crate) fn draw(coprocessor: &mut Coprocessor, memory: &mut [u8], allowance: u32) -> (u32, u32) {
+/// Positions one after another, until the allowance or the drawing ends: how many it did.
+pub(crate) fn draw(coprocessor: &mut Coprocessor, memory: &mut [u8], allowance: u32) -> u32 {
     let Some(setup) = Setup::of(coprocessor) else {
-        return (NONE, 0);
+        return 0;
     };
     let (mut stretch, begun) = Stretch::of(&setup, coprocessor.drawing);
     let mut pen = Pen::of(&coprocessor.registers, begun);
     stretch.find_row_start(&setup, &pen);
 
-    let mut refusal = NONE;
     let mut end = None;
     let mut done = 0;
     while done < allowance {
-        if position::draw(&setup, &stretch, &pen, memory).is_none() {
-            refusal = Refusal::Reach.number();
-            end = Some(Drawing::Nothing { stopped: false });
-            break;
-        }
+        position::draw(&setup, &stretch, &pen, memory);
         done += 1;
         if pen.done < stretch.last {
             pen = pen.stepped(&setup, &stretch);
@@ -60,5 +54,5 @@ pub(crate) fn draw(coprocessor: &mut Coprocessor, memory: &mut [u8], allowance: 
     }
     pen.put_back(&mut coprocessor.registers);
     coprocessor.drawing = end.unwrap_or_else(|| stretch.drawing(&setup, pen.done));
-    (refusal, done)
+    done
 }

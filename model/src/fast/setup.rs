@@ -4,6 +4,7 @@ use super::inks::Ink;
 use super::surfaces::Surface;
 use crate::coprocessor::Coprocessor;
 use crate::operations::{self, Kind, Operations};
+use crate::reach::Role;
 use crate::registers::Registers;
 
 /// What picks the ink.
@@ -68,13 +69,13 @@ impl Setup {
         let registers = &coprocessor.registers;
         let fields = registers.fields();
         let kind = fields.kind()?;
-        let destination = Surface::of(registers.map(fields.destination));
+        let destination = Surface::of(Role::Destination, registers.map(fields.destination));
         let ones = destination.ones();
         Some(Setup {
             kind,
             source: fields
                 .uses_source()
-                .then(|| Surface::of(registers.map(fields.source))),
+                .then(|| Surface::of(Role::Source, registers.map(fields.source))),
             pattern: pattern(registers, &fields),
             mask: mask(registers, &fields),
             origin: (
@@ -128,12 +129,12 @@ fn pattern(registers: &Registers, fields: &Operations) -> Pattern {
     match fields.pattern {
         operations::PATTERN_FOREGROUND => Pattern::Foreground,
         operations::PATTERN_FROM_SOURCE => Pattern::FromSource,
-        map => Pattern::Map(Surface::of(registers.map(map))),
+        map => Pattern::Map(Surface::of(Role::Pattern, registers.map(map))),
     }
 }
 
 fn mask(registers: &Registers, fields: &Operations) -> Mask {
-    let surface = Surface::of(registers.mask_map());
+    let surface = Surface::of(Role::Mask, registers.mask_map());
     match fields.mask {
         operations::MASK_BOUNDARY => Mask::Boundary(surface),
         operations::MASK_ENABLED => Mask::Enabled(surface),

@@ -2,9 +2,11 @@
 
 use crate::map::Map;
 use crate::mixes;
+use crate::reach::{self, Role};
 
 /// A map with its sizes worked out.
 pub(super) struct Surface {
+    role: Role,
     base: usize,
     pub(super) row_length: u32,
     pub(super) rows: u32,
@@ -13,15 +15,16 @@ pub(super) struct Surface {
 }
 
 /// A pixel's byte and the place of its lowest bit there.
-pub(super) struct Place {
-    pub(super) byte: usize,
-    pub(super) shift: u32,
+struct Place {
+    byte: usize,
+    shift: u32,
 }
 
 impl Surface {
     /// The surface of a map whose format was accepted.
-    pub(super) fn of(map: &Map) -> Surface {
+    pub(super) fn of(role: Role, map: &Map) -> Surface {
         Surface {
+            role,
             base: map.base as usize,
             row_length: map.row_length(),
             rows: map.rows(),
@@ -43,7 +46,7 @@ impl Surface {
 
     /// Where the pixel lies.
     #[inline(always)]
-    pub(super) fn place(&self, x: u32, y: u32) -> Place {
+    fn place(&self, x: u32, y: u32) -> Place {
         let bit = (y * self.row_length + x) << self.pixel_code;
         Place {
             byte: self.base + (bit >> 3) as usize,
@@ -51,11 +54,24 @@ impl Surface {
         }
     }
 
-    /// The pixel's value, if it lies in the memory.
+    /// The pixel's value; beyond the memory it panics.
     #[inline(always)]
-    pub(super) fn pixel(&self, memory: &[u8], x: u32, y: u32) -> Option<u32> {
+    pub(super) fn pixel(&self, memory: &[u8], x: u32, y: u32) -> u32 {
         let place = self.place(x, y);
-        let byte = memory.get(place.byte)?;
-        Some(u32::from(*byte) >> place.shift & self.ones)
+        match memory.get(place.byte) {
+            Some(byte) => u32::from(*byte) >> place.shift & self.ones,
+            None => reach::fail(self.role, (x, y), memory.len()),
+        }
+    }
+
+    /// The pixel's byte, to be read and written, and the place of its lowest bit there; beyond the memory it panics.
+    #[inline(always)]
+    pub(super) fn byte<'a>(&self, memory: &'a mut [u8], x: u32, y: u32) -> (&'a mut u8, u32) {
+        let place = self.place(x, y);
+        let memory_length = memory.len();
+        match memory.get_mut(place.byte) {
+            Some(byte) => (byte, place.shift),
+            None => reach::fail(self.role, (x, y), memory_length),
+        }
     }
 }
