@@ -1,4 +1,4 @@
-//! Random arguments of calls: places, writes of every kind, and allowances.
+//! Random arguments of calls: places, writes of every kind, allowances, and wrong lengths of a memory.
 
 use model::random::Random;
 use model::random_drawings::Write;
@@ -67,5 +67,15 @@ pub fn allowance(random: &mut Random) -> u32 {
     match random.below(16) {
         0 => 0,
         _ => 1 + random.below(most),
+    }
+}
+
+/// The length of a memory that does not fit a state of this size.
+pub fn misfit(random: &mut Random, size: u32) -> u32 {
+    match random.below(4) {
+        0 => size - 1,
+        1 => 0,
+        2 if size != 300 => 300,
+        _ => size + 1,
     }
 }

@@ -1,6 +1,7 @@
 //! Random damage to a state image.
 
 use crate::board::IMAGE;
+use model::image;
 use model::random::Random;
 
 /// Changes some bytes, or takes a run of bytes from another image, or changes the length.
@@ -24,4 +25,13 @@ pub fn damage(random: &mut Random, image: &mut Vec<u8>, other: &[u8]) {
             }
         }
     }
+}
+
+/// A copy of the image, damaged until it does not load.
+pub fn refused(random: &mut Random, image: &[u8], other: &[u8]) -> Vec<u8> {
+    let mut damaged = image.to_vec();
+    while image::loaded(&damaged).is_some() {
+        damage(random, &mut damaged, other);
+    }
+    damaged
 }

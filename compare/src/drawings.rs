@@ -1,14 +1,21 @@
 //! Whole drawings: in one run, position by position, cut anywhere, and cut at every position and carried to another coprocessor.
+//!
+//! A drawing that is cut anywhere also lives through what a fitter may do between two runs.
 
+use crate::between::{self, Between};
 use crate::memories::Memories;
 use crate::others::Others;
 use crate::pair::Pair;
+use crate::panics;
 use model::random::Random;
 use model::random_drawings::{self, RandomDrawing, FUNCTIONS};
 use std::fmt;
 
 /// The most positions of a drawing that is cut at every one of them.
 const LONGEST_CUT: u32 = 64;
+
+/// The drawings from which on all that may be done between two runs must have been done.
+const MANY: u64 = 1_000;
 
 /// What a comparison of drawings met.
 #[derive(Default)]
@@ -20,6 +27,7 @@ pub struct Counts {
     carried: u64,
     cut_everywhere: u64,
     cuts: u64,
+    between: between::Counts,
 }
 
 /// A state and its memory.
@@ -29,18 +37,29 @@ struct Board {
     memories: Memories,
 }
 
-/// Compares `count` drawings of all functions in turn.
-pub fn compare(random: &mut Random, count: u64, others: &Others) -> Result<Counts, String> {
+/// Compares `count` drawings of all functions in turn; what is done between their runs has random numbers of its own.
+pub fn compare(
+    random: &mut Random,
+    random_between: Random,
+    count: u64,
+    others: &Others,
+) -> Result<Counts, String> {
     let mut counts = Counts::default();
+    let mut between = Between::new(random_between, others);
     for kind in (0..FUNCTIONS.len()).cycle().take(count as usize) {
         let drawing = random_drawings::drawing(random, FUNCTIONS[kind]);
-        let positions = one(random, &drawing, others, &mut counts)
-            .map_err(|difference| format!("{difference}\nin {drawing:?}"))?;
+        let whole = || one(random, &drawing, others, &mut between, &mut counts);
+        let positions =
+            panics::caught(whole).map_err(|difference| format!("{difference}\nin {drawing:?}"))?;
         counts.drawings[kind] += 1;
         counts.positions += u64::from(positions);
         counts.stopped_at_once += u64::from(positions == 0);
     }
-    Ok(counts)
+    counts.between = between.counts;
+    match counts.between.never_met().filter(|_| count >= MANY) {
+        Some(never) => Err(never),
+        None => Ok(counts),
+    }
 }
 
 /// Compares one drawing in every way, and answers its positions.
@@ -48,6 +67,7 @@ fn one(
     random: &mut Random,
     drawing: &RandomDrawing,
     others: &Others,
+    between: &mut Between,
     counts: &mut Counts,
 ) -> Result<u32, String> {
     let begun = Board::begin(drawing)?;
@@ -61,21 +81,34 @@ fn one(
         single.run(1)?;
     }
     whole.is_end_of(&single)?;
-    let mut cut = begun.clone();
-    while cut.pair.plain.left() > 0 {
-        cut.run(1 + random.below(7))?;
-        if random.once_in(6) {
-            cut.carry(random, others)?;
-            counts.carried += 1;
-        }
-    }
-    whole.is_end_of(&cut)?;
+    counts.carried += cut_anywhere(random, begun.clone(), &whole, others, between)?;
     if positions <= LONGEST_CUT {
         counts.cuts += cut_everywhere(random, begun, &whole, others)?;
         counts.cut_everywhere += 1;
     }
     counts.changed += u64::from(whole.memories.plain != drawing.memory);
     Ok(positions)
+}
+
+/// Runs by random allowances, with something done before each; now and then the drawing is carried on.
+fn cut_anywhere(
+    random: &mut Random,
+    mut board: Board,
+    whole: &Board,
+    others: &Others,
+    between: &mut Between,
+) -> Result<u64, String> {
+    let mut carried = 0;
+    while board.pair.plain.left() > 0 {
+        between.act(&mut board.pair, &mut board.memories)?;
+        board.run(1 + random.below(7))?;
+        if random.once_in(6) {
+            board.carry(random, others)?;
+            carried += 1;
+        }
+    }
+    whole.is_end_of(&board)?;
+    Ok(carried)
 }
 
 /// Carries the drawing on before its first position and after every one; from each cut it also runs to the whole's end at once.
@@ -149,6 +182,7 @@ impl fmt::Display for Counts {
             lines,
             "  {} loads into another coprocessor at random; {} drawings cut at every position, with {} such loads",
             self.carried, self.cut_everywhere, self.cuts
-        )
+        )?;
+        write!(lines, "{}", self.between)
     }
 }

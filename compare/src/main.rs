@@ -8,6 +8,7 @@
 //! The last line is `no difference`, or the first difference is told after `DIFFERENCE:` and the exit status is not 0.
 
 mod arguments;
+mod between;
 mod board;
 mod calls;
 mod damage;
@@ -74,7 +75,7 @@ fn all(asked: &Arguments) -> Result<(), String> {
         println!("{met}");
     }
     if asked.drawings > 0 {
-        let met = drawings::compare(&mut random(4), asked.drawings, &others)?;
+        let met = drawings::compare(&mut random(4), random(5), asked.drawings, &others)?;
         println!("{met}");
     }
     if asked.sequences > 0 {

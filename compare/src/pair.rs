@@ -92,6 +92,22 @@ impl Pair {
         Ok(image)
     }
 
+    /// A save into a buffer of a wrong length, which stays: the answer.
+    ///
+    /// The proved library has no save; there every call refuses the image in a buffer of that length.
+    pub fn save_misfit(&mut self, length: usize, memories: &mut Memories) -> Result<u32, String> {
+        let mut image = self.image().to_vec();
+        image.resize(length, 0);
+        let said = self.load(&image, memories)?;
+        let mut buffer = vec![0x5A; length];
+        let right = self.plain.save(&mut buffer);
+        if buffer != vec![0x5A; length] {
+            return Err(format!("save changed a buffer of {length} bytes"));
+        }
+        self.agree("save", &[length as u32], said, right)?;
+        Ok(right)
+    }
+
     /// The image of the state, as the proved code keeps it.
     pub fn image(&self) -> &[u8] {
         self.image.bytes()

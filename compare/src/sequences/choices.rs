@@ -100,13 +100,7 @@ impl Sequence<'_> {
     }
 
     fn run_any_misfit(&mut self) -> Result<(), String> {
-        let size = self.pair.plain.size;
-        let length = match self.random.below(4) {
-            0 => size - 1,
-            1 => 0,
-            2 if size != 300 => 300,
-            _ => size + 1,
-        };
+        let length = calls::misfit(&mut self.random, self.pair.plain.size);
         let allowance = calls::allowance(&mut self.random);
         self.run_misfit(length, allowance)
     }

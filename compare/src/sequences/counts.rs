@@ -28,8 +28,8 @@ const CALLS: [(&str, &[usize]); 6] = [
     ("loads", &[0, 10]),
 ];
 
-const NUMBERS: [&str; 12] = [
-    "accepted", "1", "2", "3", "4", "5", "6", "7", "8", "9", "10", "11",
+const NUMBERS: [&str; 11] = [
+    "accepted", "1", "2", "3", "4", "5", "6", "7", "8", "9", "10",
 ];
 
 /// What sequences met.
@@ -37,7 +37,7 @@ const NUMBERS: [&str; 12] = [
 pub struct Counts {
     pub sequences: u64,
     /// By kind of call and number answered.
-    pub calls: [[u64; 12]; 6],
+    calls: [[u64; NUMBERS.len()]; 6],
     pub positions: u64,
     /// Runs that did positions, and those of them after which the memory was another.
     pub runs: [u64; 2],
@@ -49,6 +49,17 @@ pub struct Counts {
 }
 
 impl Counts {
+    /// Counts a call by its answer; a number that the call cannot answer with is a difference.
+    pub fn note_call(&mut self, call: Call, number: u32) -> Result<(), String> {
+        let (name, numbers) = CALLS[call as usize];
+        let number = number as usize;
+        if !numbers.contains(&number) {
+            return Err(format!("one of the {name} answered with {number}"));
+        }
+        self.calls[call as usize][number] += 1;
+        Ok(())
+    }
+
     /// Counts an accepted write by the drawing that it started, if it did.
     pub fn note_start(&mut self, state: &Coprocessor, offset: u32, length: u32) {
         let fields = state.registers.fields();

@@ -129,11 +129,6 @@ impl<'a> Sequence<'a> {
         if self.is_told {
             println!("{call:?} {numbers:X?}: {refusal}");
         }
-        let counts = &mut self.counts.calls[call as usize];
-        match counts.get_mut(refusal as usize) {
-            Some(times) => *times += 1,
-            None => return Err(format!("{call:?} answered with {refusal}")),
-        }
-        Ok(())
+        self.counts.note_call(call, refusal)
     }
 }
