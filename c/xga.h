@@ -2,7 +2,8 @@
 
    An image is XGA_IMAGE_BYTES bytes, and the memory as many bytes as the state was made for. Each is passed as a
    pointer, which is not NULL, and its length; the two lie apart. No call keeps a pointer or allocates.
-   A call answers 0 or the number of its refusal. Where an image has another length or does not load, there is no state of
+   A call answers 0 or the number of its refusal (docs/manual/refusals.md). A refused call changes nothing, but for xga_fresh
+   with a size outside the limit. Where an image has another length or does not load, there is no state of
    which anything else could be asked, and it is refused with 10; otherwise the lowest number that applies is given. */
 #ifndef XGA_H
 #define XGA_H
@@ -36,8 +37,7 @@ uint64_t xga_read(const uint8_t *image, size_t image_length, uint32_t offset, ui
 
 /* Draws at most allowance positions of the drawing in hand: the refusal in the answer's high 32 bits, the positions
    done in the low ones; with no drawing in hand, 0.
-   Refused: 9, memory_length not the state's size, and 10, an image that does not load, both with nothing done;
-   11, a position beyond the memory, which ends the drawing and leaves what earlier positions did. */
+   Refused, with nothing done: 9, memory_length not the state's size; 10, an image that does not load. */
 uint64_t xga_run(uint8_t *image, size_t image_length, uint8_t *memory, size_t memory_length, uint32_t allowance);
 
 /* Asks whether the bytes, say from a disk, are an image that the other calls accept; it changes nothing.

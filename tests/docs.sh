@@ -14,7 +14,7 @@ tell() {
 grep -o '`[a-z]*/[A-Za-z_/]*\.antt:[0-9]*`, `[^`]*`' docs/READING.md | tr -d '`,' >"$work/cited"
 while read -r place name; do
     file=crates/${place%:*}
-    line=$(sed -n "${place##*:}p" "$file" | sed 's/^unfoldable //; s/^pub //; s/^record //')
+    line=$(sed -n "${place##*:}p" "$file" | sed 's/^unfoldable //; s/^pub //; s/^record //; s/^data //')
     case $line in
     "$name "*) ;;
     *) tell "$place is not $name" ;;
@@ -24,7 +24,7 @@ done <"$work/cited"
 
 # named PATTERN: the names of this form that the documents have between backquotes
 named() {
-    grep -ohE "\`$1\`" README.md docs/*.md | tr -d '`' | sort -u
+    grep -ohE "\`$1\`" README.md docs/*.md docs/manual/*.md | tr -d '`' | sort -u
 }
 
 # Names with hyphens are theorems, and names with a capital inside are definitions.

@@ -6,7 +6,7 @@ use lib.ListN.{length}
 use lib.Dec.{eqb}
 use Rattle.numbers.specs.Choose.{choose}
 use Rattle.parts.specs.declared.refusals.Refusal.{Refusal}
-use Rattle.parts.specs.declared.refusals.Refusal.the-variants.{Accepted, Size, Image, Beyond}
+use Rattle.parts.specs.declared.refusals.Refusal.the-variants.{Accepted, Size, Image}
 use Rattle.parts.specs.Refusals.{isAccepted}
 use Rattle.rules.specs.Operations.{sourceField, destinationField, patternField}
 use Rattle.rules.specs.Maps.{mapAt}
@@ -75,13 +75,15 @@ ranOf c memory n = after (setupOf c) n (begun (penOf c) memory)
 unfoldable pub runRefusal : Coprocessor → List ℕ → Refusal
 runRefusal c memory = choose (not (eqb (length memory) (c .size))) Size (choose (not (validOf c)) Image Accepted)
 
--- 01, Numbers a call answers with: 9 or 10 in a run does 0 positions; 11 leaves what earlier positions did and makes the drawing idle
+-- 01, Numbers a call answers with: a refused run does 0 positions
 unfoldable pub runAnswer : Coprocessor → List ℕ → ℕ → Drawn
 runAnswer c memory n =
-    choose (isAccepted (runRefusal c memory))
-    (record { refusal = choose (ranOf c memory n .beyond) Beyond Accepted; done = ranOf c memory n .done; coprocessor = withPen c (ranOf c memory n .pen) })
-    (record { refusal = runRefusal c memory; done = 0; coprocessor = c })
+    record {
+      refusal = runRefusal c memory;
+      done = choose (isAccepted (runRefusal c memory)) (ranOf c memory n .done) 0;
+      coprocessor = choose (isAccepted (runRefusal c memory)) (withPen c (ranOf c memory n .pen)) c;
+    }
 
--- 01, Numbers a call answers with: the memory after it; a refusal 9 or 10 leaves it
+-- 01, Numbers a call answers with: the memory after it; a refused run leaves it
 unfoldable pub runMemory : Coprocessor → List ℕ → ℕ → List ℕ
 runMemory c memory n = choose (isAccepted (runRefusal c memory)) (ranOf c memory n .memory) memory

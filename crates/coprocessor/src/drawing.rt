@@ -112,7 +112,7 @@ impl Coprocessor {
         }
     }
 
-    // The refusal of a run before its first position, if any: 9, 10.
+    // The refusal of a run, if any: 9, 10.
     fn run_refusal(self, memory: &[u8]) -> Refusal
         ensures { λ r. ⌜ r ≡ runRefusal self (now (memory .entry)) ⌝ }
     {
@@ -125,8 +125,7 @@ impl Coprocessor {
         Refusal::Accepted
     }
 
-    // Does the next positions of the drawing in hand, at most as many as the allowance; 9 or 10 does none, and 11 keeps
-    // those before it and ends the drawing.
+    // Does the next positions of the drawing in hand, at most as many as the allowance; a refused run does none.
     pub fn run(self, memory: &mut [u8], allowance: u32) -> Drawn
         ensures { λ r. ⌜ (r ≡ runAnswer self (now (memory .entry)) allowance) × (now (memory .exit) ≡ runMemory self (now (memory .entry)) allowance) ⌝ }
     {
@@ -141,18 +140,10 @@ impl Coprocessor {
         let ran = run(self.setup(), self.pen(), memory, allowance);
         let pen = ran.pen;
         let coprocessor = self.with_pen(pen);
-        if ran.beyond {
-            Drawn {
-                refusal: Refusal::Beyond,
-                done: ran.done,
-                coprocessor,
-            }
-        } else {
-            Drawn {
-                refusal: Refusal::Accepted,
-                done: ran.done,
-                coprocessor,
-            }
+        Drawn {
+            refusal,
+            done: ran.done,
+            coprocessor,
         }
     }
 }

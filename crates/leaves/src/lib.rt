@@ -63,17 +63,16 @@ pub extern "C" fn leaf_needed(width: u16, height: u16, format: u8) -> u64
 pub extern "C" fn leaf_get(memory: &[u8], base: u32, width: u16, format: u8, x: u16, y: u16) -> u32
     ensures { λ r. ⌜ r ≡ pixelAt (now (memory .entry)) (record { base = base; width = width; height = 0; format = format }) x y ⌝ }
 {
-    pixels::get(
-        memory,
-        Map {
-            base,
-            width,
-            height: 0,
-            format,
-        },
-        x,
-        y,
-    )
+    let map = Map {
+        base,
+        width,
+        height: 0,
+        format,
+    };
+    if memory.len() <= pixels::place(map, x, y) {
+        return 0;
+    }
+    pixels::get(memory, map, x, y)
 }
 
 // Makes pixel (x, y) of a map the low bits of `value`; beyond the memory nothing is written.
@@ -89,16 +88,14 @@ pub extern "C" fn leaf_put(
 )
     ensures { λ _. ⌜ now (memory .exit) ≡ withPixel (now (memory .entry)) (record { base = base; width = width; height = 0; format = format }) x y value ⌝ }
 {
-    pixels::put(
-        memory,
-        Map {
-            base,
-            width,
-            height: 0,
-            format,
-        },
-        x,
-        y,
-        value,
-    )
+    let map = Map {
+        base,
+        width,
+        height: 0,
+        format,
+    };
+    let at = pixels::place(map, x, y);
+    if at < memory.len() {
+        pixels::put(memory, map, x, y, value);
+    }
 }

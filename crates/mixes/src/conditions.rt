@@ -3,9 +3,12 @@ ghost use Prim.Native.Nat.{_≤_};
 ghost use Rattle.mixes.specs.Conditions.{conditionHolds};
 use crate::logical::all_ones;
 
-// Whether the compare condition is true of the destination, over the bits that the plane mask enables; these stay in their
-// order, so the masked pixels compare as the gathered bits do. Conditions past 7 are true of nothing.
-pub fn holds(bits: u32, condition: u8, planes: u32, destination: u32, value: u32) -> bool
+// The condition that is true of nothing.
+const NEVER: u8 = 4;
+
+// Whether a condition is true of the destination, over the bits that the plane mask enables; these stay in their order, so
+// the masked pixels compare as the gathered bits do. Conditions past 7 are true of nothing.
+fn compares(bits: u32, condition: u8, planes: u32, destination: u32, value: u32) -> bool
     requires { ⌜ bits ≤ 8 ⌝ }
     ensures { λ r. ⌜ r ≡ conditionHolds bits condition planes destination value ⌝ }
 {
@@ -23,4 +26,15 @@ pub fn holds(bits: u32, condition: u8, planes: u32, destination: u32, value: u32
         7 => d <= v,
         _ => false,
     }
+}
+
+// The same. Most drawings have the condition that never holds, so that is asked first.
+pub fn holds(bits: u32, condition: u8, planes: u32, destination: u32, value: u32) -> bool
+    requires { ⌜ bits ≤ 8 ⌝ }
+    ensures { λ r. ⌜ r ≡ conditionHolds bits condition planes destination value ⌝ }
+{
+    if condition == NEVER {
+        return false;
+    }
+    compares(bits, condition, planes, destination, value)
 }

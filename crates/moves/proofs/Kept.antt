@@ -6,7 +6,7 @@ use Prim.Native.Nat.{ℕ, _%_}
 use lib.Dec.{lit<}
 use lib.IntN.{ℤ, pos, _+ℤ_}
 use lib.Signed.{ltZ}
-use borrow.Author.Tests.{leb-true, le-leb}
+use borrow.Author.Tests.{le-leb}
 use Rattle.numbers.specs.Choose.{choose}
 use Rattle.numbers.specs.Circles.{circle}
 use Rattle.numbers.proofs.CircleLaws.{circle-circle}
@@ -18,12 +18,14 @@ use Rattle.parts.specs.declared.drawing.Drawing.{Drawing}
 use Rattle.parts.specs.declared.drawing.Drawing.the-variants.{Nothing, Line, Codes, Block}
 use Rattle.rules.specs.Maps.{isInside}
 use Rattle.rules.specs.Starts.{codeAt}
+use Rattle.rules.proofs.PointerLaws.{inside-x, inside-y}
 use Rattle.moves.specs.declared.Turn.{Turn}
 use Rattle.moves.specs.declared.Step.{Step}
 use Rattle.moves.specs.declared.Setup.{Setup}
 use Rattle.moves.specs.declared.Pen.{Pen}
 use Rattle.moves.specs.Turns.{turnedBy, pointStepped, spotStepped}
 use Rattle.moves.specs.Moves.{penStepped, penWith, penGone, lineError, lineMoved, codesMoved, columnPassed, rowPoint, rowSpot, rowPassed, blockMoved, movedBy, moved}
+use Rattle.moves.specs.Inner.{Pointed}
 use Rattle.moves.proofs.TurnLaws.{turned-in}
 use Rattle.moves.proofs.CircledLaws.{OnCircle, circled-on}
 
@@ -50,10 +52,8 @@ pub turned-inside : (map : Map) (t u : Turn) (j k : ℕ) (p : Point) → isInsid
     → isInside map (record { x = turnedBy t j (map .width) (p .x); y = turnedBy u k (map .height) (p .y) }) ≡ true
 unfolding isInside
 turned-inside map t u j k p h =
-    let across = leb-true (p .x) (map .width) (search and-left) in
-    let down = leb-true (p .y) (map .height) (search and-right) in
-    let right = le-leb (turnedBy t j (map .width) (p .x)) (map .width) (turned-in (map .width) t j (p .x) across) in
-    let below = le-leb (turnedBy u k (map .height) (p .y)) (map .height) (turned-in (map .height) u k (p .y) down) in
+    let right = le-leb (turnedBy t j (map .width) (p .x)) (map .width) (turned-in (map .width) t j (p .x) (inside-x map p h)) in
+    let below = le-leb (turnedBy u k (map .height) (p .y)) (map .height) (turned-in (map .height) u k (p .y) (inside-y map p h)) in
     search and-both
 
 -- a used pointer turns, and an unused one stays
@@ -79,6 +79,9 @@ pattern-inside s =
     (λ from to e d pen known. used-inside (s .flow .pattern) (s .pattern) _ _ _ _ (pen .pattern))
     (λ d pen. used-inside (s .flow .pattern) (s .pattern) _ _ _ _ (pen .pattern))
     (λ d pen h. h)
+
+pub pointed-moved : (s : Setup) (pen : Pen) → Pointed s pen → Pointed s (moved s pen)
+pointed-moved s pen h = record { source = λ used. source-inside s pen (h .source used); pattern = λ used. pattern-inside s pen (h .pattern used) }
 
 -- 01, State image: used source and pattern pointers lie in their maps
 abbrev pub pointersInside : Setup → Pen → Bool

@@ -1,4 +1,7 @@
--- How the code asks it: what functions inside promise each other, proved to be the same as the rules; nothing here has to be believed.
+-- How the code asks it: what functions inside promise and ask of each other, proved from the rules; nothing here has to be believed.
+use mathlib.Core.Path.{_≡_}
+use mathlib.Core.Bool.{true}
+use Rattle.rules.specs.Maps.{isInside}
 use Rattle.moves.specs.declared.Way.{Way}
 use Rattle.moves.specs.declared.Way.the-variants.{Along, Row, Here}
 use Rattle.moves.specs.declared.Setup.{Setup}
@@ -11,3 +14,8 @@ gone s (Along fromX fromY toX toY e drawing) pen =
     penStepped s (record { x = fromX; y = fromY }) (record { x = toX; y = toY }) e drawing pen
 gone s (Row drawing) pen = rowPassed s drawing pen
 gone s (Here drawing) pen = penWith drawing pen
+
+-- used source and pattern pointers lie in their maps
+pub record Pointed (s : Setup) (pen : Pen) : Type 0 where
+  pub source : s .flow .source ≡ true → isInside (s .source) (pen .source) ≡ true
+  pub pattern : s .flow .pattern ≡ true → isInside (s .pattern) (pen .pattern) ≡ true

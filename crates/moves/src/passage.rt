@@ -1,5 +1,6 @@
 ghost use mathlib.Core.Path.{_≡_};
 ghost use Rattle.moves.specs.Moves.{moved};
+ghost use Rattle.moves.specs.Inner.{Pointed};
 use crate::Pen;
 use crate::Setup;
 use crate::Way;
@@ -8,9 +9,10 @@ use crate::pens::pen_with;
 use crate::pens::step_pen;
 use crate::ways::way_of;
 
-// The pen after this position; with nothing in hand it stays. The ways of all drawings meet here, so that a loop over
+// The pen after this position, whose used pointers lie in their maps; with nothing in hand it stays. The ways of all drawings meet here, so that a loop over
 // positions has one step in it and copies no set-up to take it.
 pub fn next(setup: Setup, pen: Pen) -> Pen
+    requires { ⌜ Pointed setup pen ⌝ }
     ensures { λ r. ⌜ r ≡ moved setup pen ⌝ }
 {
     let way = way_of(setup, pen);

@@ -1,7 +1,10 @@
 ghost use mathlib.Core.Path.{_≡_};
+ghost use mathlib.Core.Bool.{true};
+ghost use Prim.Native.Nat.{_≤_};
 ghost use Rattle.numbers.specs.Choose.{choose};
 ghost use Rattle.moves.specs.Turns as turned;
 ghost use Rattle.moves.specs.Moves as defined;
+ghost use Rattle.moves.specs.Inner.{Pointed};
 use crate::Course;
 use crate::Pen;
 use crate::Setup;
@@ -16,6 +19,7 @@ use parts::shapes::Spot;
 
 // One step of a pointer in a map that ends at `last`, where the map is used.
 fn turn_used(used: bool, turn: Turn, last: u16, x: u16) -> u16
+    requires { ⌜ (used ≡ true → x ≤ last) ⌝ }
     ensures { λ r. ⌜ r ≡ choose used (turned.turnedBy turn 1 last x) x ⌝ }
 {
     if used { turn_once(turn, last, x) } else { x }
@@ -33,6 +37,7 @@ pub(crate) fn step_pen(
     drawing: Drawing,
     pen: Pen,
 ) -> Pen
+    requires { ⌜ Pointed setup pen ⌝ }
     ensures { λ r.
         ⌜ r ≡ defined.penStepped setup (record { x = «from_x»; y = «from_y» }) (record { x = «to_x»; y = «to_y» }) e drawing pen ⌝ }
 {
@@ -59,7 +64,7 @@ pub(crate) fn step_pen(
 }
 
 // The pen with another drawing in hand.
-pub fn pen_with(drawing: Drawing, pen: Pen) -> Pen
+pub(crate) fn pen_with(drawing: Drawing, pen: Pen) -> Pen
     ensures { λ r. ⌜ r ≡ defined.penWith drawing pen ⌝ }
 {
     let source = Point {
@@ -85,6 +90,7 @@ pub fn pen_with(drawing: Drawing, pen: Pen) -> Pen
 
 // The X of a source or pattern pointer after a row, where the map is used.
 fn return_used(used: bool, setup: Setup, last: u16, x: u16) -> u16
+    requires { ⌜ (used ≡ true → x ≤ last) ⌝ }
     ensures { λ r.
         ⌜ r ≡ choose used (turned.turnedBy (turned.opposite (setup .course .x)) (setup .dimensions .x) last x) x ⌝ }
 {
@@ -116,6 +122,7 @@ fn return_by(setup: Setup, x: i16) -> i16
 
 // The pen after a row.
 pub(crate) fn pass_row(setup: Setup, drawing: Drawing, pen: Pen) -> Pen
+    requires { ⌜ Pointed setup pen ⌝ }
     ensures { λ r. ⌜ r ≡ defined.rowPassed setup drawing pen ⌝ }
 {
     let flow = setup.flow;

@@ -1,5 +1,5 @@
 ghost use mathlib.Core.Path.{_≡_};
-ghost use Prim.Native.Nat.{_+_};
+ghost use Prim.Native.Nat.{_+_, _≤_};
 ghost use Rattle.numbers.specs.Circles.{forth, back};
 ghost use Rattle.moves.specs.Turns as defined;
 use crate::Turn;
@@ -23,30 +23,29 @@ pub fn opposite(turn: Turn) -> Turn
 
 // `count` steps forth in a map that ends at `last`; it divides only where they leave the map.
 fn forth_by(count: u16, last: u16, x: u16) -> u16
+    requires { ⌜ x ≤ last ⌝ }
     ensures { λ r. ⌜ r ≡ forth (last + 1) count x ⌝ }
 {
-    if x <= last {
-        if count <= last - x {
-            return x + count;
-        }
+    if count <= last - x {
+        return x + count;
     }
     steps_forth(x, last, count)
 }
 
 // `count` steps back in a map that ends at `last`; it divides only where they leave the map.
 fn back_by(count: u16, last: u16, x: u16) -> u16
+    requires { ⌜ x ≤ last ⌝ }
     ensures { λ r. ⌜ r ≡ back (last + 1) count x ⌝ }
 {
-    if x <= last {
-        if count <= x {
-            return x - count;
-        }
+    if count <= x {
+        return x - count;
     }
     steps_back(x, last, count)
 }
 
 // `count` steps of a pointer in a map that ends at `last`.
 pub fn turn_by(turn: Turn, count: u16, last: u16, x: u16) -> u16
+    requires { ⌜ x ≤ last ⌝ }
     ensures { λ r. ⌜ r ≡ defined.turnedBy turn count last x ⌝ }
 {
     match turn {
@@ -58,6 +57,7 @@ pub fn turn_by(turn: Turn, count: u16, last: u16, x: u16) -> u16
 
 // One step of a pointer in a map that ends at `last`.
 pub fn turn_once(turn: Turn, last: u16, x: u16) -> u16
+    requires { ⌜ x ≤ last ⌝ }
     ensures { λ r. ⌜ r ≡ defined.turnedBy turn 1 last x ⌝ }
 {
     match turn {

@@ -12,30 +12,20 @@ pub fn remainder(x: u16, last: u16) -> u16
     (x as u32 % (last as u32 + 1)) as u16
 }
 
-// One step forth: past the last comes the first.
+// One step forth of a pointer in its map: past the last comes the first.
 pub fn step_forth(x: u16, last: u16) -> u16
+    requires { ⌜ x ≤ last ⌝ }
     ensures { λ r. ⌜ r ≡ forth (last + 1) 1 x ⌝ }
 {
-    if x < last {
-        x + 1
-    } else if x == last {
-        0
-    } else {
-        ((x as u32 + 1) % (last as u32 + 1)) as u16
-    }
+    if x < last { x + 1 } else { 0 }
 }
 
-// One step back: before the first comes the last.
+// One step back of a pointer in its map: before the first comes the last.
 pub fn step_back(x: u16, last: u16) -> u16
+    requires { ⌜ x ≤ last ⌝ }
     ensures { λ r. ⌜ r ≡ back (last + 1) 1 x ⌝ }
 {
-    if x == 0 {
-        last
-    } else if x <= last {
-        x - 1
-    } else {
-        (((x - 1) as u32) % (last as u32 + 1)) as u16
-    }
+    if x == 0 { last } else { x - 1 }
 }
 
 // `count` steps forth at once.

@@ -4,7 +4,7 @@ use mathlib.Core.Bool.{Bool, true, false, false≢true}
 use lib.Dec.{eqb}
 use Rattle.numbers.specs.Choose.{choose}
 use Rattle.parts.specs.declared.refusals.Refusal.{Refusal}
-use Rattle.parts.specs.declared.refusals.Refusal.the-variants.{Accepted, Place, Unfinished, Unlisted, Function, Fields, Mixes, Formats, Ends, Size, Image, Beyond}
+use Rattle.parts.specs.declared.refusals.Refusal.the-variants.{Accepted, Place, Unfinished, Unlisted, Function, Fields, Mixes, Formats, Ends, Size, Image}
 use Rattle.parts.specs.Refusals.{numberOf, isAccepted}
 
 pub number-accepted : (refusal : Refusal) → eqb (numberOf refusal) 0 ≡ isAccepted refusal
@@ -19,7 +19,6 @@ number-accepted Formats = refl
 number-accepted Ends = refl
 number-accepted Size = refl
 number-accepted Image = refl
-number-accepted Beyond = refl
 
 -- a refusal that comes first is not there where the whole is accepted, and the rest is accepted
 pub passed : (t : Bool) (first rest : Refusal) → (t ≡ true → isAccepted first ≡ false) → isAccepted (choose t first rest) ≡ true

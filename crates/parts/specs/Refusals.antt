@@ -2,7 +2,7 @@
 use Prim.Native.Nat.{ℕ}
 use mathlib.Core.Bool.{Bool, true, false}
 use Rattle.parts.specs.declared.refusals.Refusal.{Refusal}
-use Rattle.parts.specs.declared.refusals.Refusal.the-variants.{Accepted, Place, Unfinished, Unlisted, Function, Fields, Mixes, Formats, Ends, Size, Image, Beyond}
+use Rattle.parts.specs.declared.refusals.Refusal.the-variants.{Accepted, Place, Unfinished, Unlisted, Function, Fields, Mixes, Formats, Ends, Size, Image}
 
 -- 01, Numbers a call answers with: the paper's number, 0 for none
 abbrev pub numberOf : Refusal → ℕ
@@ -17,7 +17,6 @@ numberOf Formats = 7
 numberOf Ends = 8
 numberOf Size = 9
 numberOf Image = 10
-numberOf Beyond = 11
 
 -- 01, Numbers a call answers with: none
 abbrev pub isAccepted : Refusal → Bool
@@ -32,4 +31,3 @@ isAccepted Formats = false
 isAccepted Ends = false
 isAccepted Size = false
 isAccepted Image = false
-isAccepted Beyond = false

@@ -14,7 +14,6 @@ pub enum Refusal {
     Ends,
     Size,
     Image,
-    Beyond,
 }
 
 // The number that a call answers with.
@@ -33,7 +32,6 @@ pub fn number(refusal: Refusal) -> u32
         Refusal::Ends => 8,
         Refusal::Size => 9,
         Refusal::Image => 10,
-        Refusal::Beyond => 11,
     }
 }
 

@@ -26,6 +26,11 @@ module _ (memory : List ℕ) (map : Map) (x y : ℕ) where
   unfolding foundAt
   found-in-byte = in-byte map x y
 
+  -- in the byte where the pixel lies
+  pub found-in-memory : placeOf map x y < length memory → foundAt memory map x y .at < length memory
+  unfolding foundAt
+  found-in-memory h = h
+
   pub pixel-beyond : length memory ≤ placeOf map x y → pixelAt memory map x y ≡ 0
   unfolding byteAt pixelAt
   pixel-beyond h = rw (List·getD-eq-default memory 0 h, field-zero (shiftOf map x y) (bitsOf (map .format)))

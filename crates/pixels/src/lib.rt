@@ -1,8 +1,8 @@
 // A pixel of 1, 2, 4 or 8 bits in lent bytes.
 
 ghost use mathlib.Core.Path.{_≡_};
-ghost use Prim.Native.Nat.{_+_, _*_, _-_, _^_, _≤_};
-ghost use lib.ListN.{getD, set};
+ghost use Prim.Native.Nat.{_+_, _*_, _-_, _^_, _≤_, _<_};
+ghost use lib.ListN.{length, set};
 ghost use Rattle.numbers.specs.Fields.{field, withField};
 ghost use Rattle.pixels.specs.Maps.{bitsOf, neededOf, placeOf, shiftOf};
 ghost use Rattle.pixels.specs.Pixels.{pixelAt, withPixel};
@@ -87,24 +87,16 @@ fn replaced(byte: u8, shift: u32, bits: u32, value: u32) -> u8
     ((byte as u32) - (old << shift) + (new << shift)) as u8
 }
 
-// The byte of this index, or 0 beyond the memory.
-fn byte_at(memory: &[u8], at: usize) -> u8
-    ensures { λ r. ⌜ r ≡ getD (now (memory .entry)) at 0 ⌝ }
-{
-    if memory.len() <= at {
-        return 0;
-    }
-    memory[at]
-}
-
-// The pixel's bits in its byte.
+// The pixel's bits in its byte, which lies in the memory.
 pub fn find(memory: &[u8], map: Map, x: u16, y: u16) -> Found
+    requires { ⌜ placeOf map x y < length (now memory) ⌝ }
     ensures { λ r. ⌜ r ≡ foundAt (now (memory .entry)) map x y ⌝ }
 {
     let at = place(map, x, y);
+    let byte = memory[at];
     Found {
         at,
-        byte: byte_at(memory, at),
+        byte,
         shift: shift(map, x, y),
         bits: bits_of(map.format),
     }
@@ -118,27 +110,27 @@ pub fn value(found: Found) -> u32
     taken(found.byte, found.shift, found.bits)
 }
 
-// Stores the low bits of value as the pixel that was found; where that lies beyond the memory, nothing.
+// Stores the low bits of value as the pixel that was found.
 pub fn store(memory: &mut [u8], found: Found, value: u32)
-    requires { ⌜ found .shift + found .bits ≤ 8 ⌝ }
+    requires { ⌜ (found .shift + found .bits ≤ 8) × (found .at < length (now memory)) ⌝ }
     ensures { λ _.
         ⌜ now (memory .exit) ≡ set (now (memory .entry)) (found .at) (withField (found .shift) (found .bits) value (found .byte)) ⌝ }
 {
     let at = found.at;
-    if at < memory.len() {
-        memory[at] = replaced(found.byte, found.shift, found.bits, value);
-    }
+    memory[at] = replaced(found.byte, found.shift, found.bits, value);
 }
 
-// The pixel, or 0 where it lies beyond the memory.
+// The pixel, which lies in the memory.
 pub fn get(memory: &[u8], map: Map, x: u16, y: u16) -> u32
+    requires { ⌜ placeOf map x y < length (now memory) ⌝ }
     ensures { λ r. ⌜ r ≡ pixelAt (now (memory .entry)) map x y ⌝ }
 {
     value(find(memory, map, x, y))
 }
 
-// Stores the low bits of value as the pixel; where that lies beyond the memory, nothing.
+// Stores the low bits of value as the pixel, which lies in the memory.
 pub fn put(memory: &mut [u8], map: Map, x: u16, y: u16, value: u32)
+    requires { ⌜ placeOf map x y < length (now memory) ⌝ }
     ensures { λ _. ⌜ now (memory .exit) ≡ withPixel (now (memory .entry)) map x y value ⌝ }
 {
     let found = find(memory, map, x, y);

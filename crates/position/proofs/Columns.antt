@@ -1,17 +1,23 @@
 -- A destination's place from an origin, as the machine has it: 32 bits hold it by the signs, and where it is not below 0 it is a column of 16 bits.
-use mathlib.Core.Path.{_≡_, ap}
-use mathlib.Core.Bool.{true, false, false≢true}
+use mathlib.Core.Path.{_≡_, refl, ap}
+use mathlib.Core.Bool.{true, false, _&&_, false≢true}
 use Prim.Native.Nat.{ℕ, zero, suc, _+_, _^_, _≤_, _<_}
 use native.Mathlib.Omega.{arith}
 use lib.IntN.{ℤ, pos, negsuc, _-ℤ_, +ℤ-idr}
-use lib.Signed.{mag, ltZ}
+use lib.Signed.{mag, leZ, ltZ}
 use mir.Syntax.{w16, w32}
 use mir.Val.{Fits, SFits, ofZ, toZ}
 use mir.ValLaws.{toZ-ofZ, toZ-pos}
-use borrow.Author.Tests.{leb-true}
+use borrow.Author.Tests.{leb-true, le-leb}
 use Rattle.numbers.proofs.CircleLaws.{sub-cases}
 use Rattle.numbers.proofs.SignedLaws.{mag-sub, negative, natural}
 use Rattle.position.specs.Places.{isWithin, columnOf}
+
+-- a place is within where it is at least 0 and at most the last
+pub within-tests : (last : ℕ) (z : ℤ) → (leZ (pos 0) z && leZ z (pos last)) ≡ isWithin last z
+unfolding isWithin
+within-tests last (pos n) = rw (le-leb 0 n (omega arith))
+within-tests last (negsuc n) = refl
 
 -- a place within is a column up to the last
 pub within-column : (last : ℕ) (z : ℤ) → isWithin last z ≡ true → columnOf z ≤ last

@@ -1,16 +1,18 @@
--- How the code asks it: what functions inside promise each other, proved to be the same as the rules; nothing here has to be believed.
-use Prim.Native.Nat.{ℕ}
-use mathlib.Core.Bool.{Bool, not, _&&_, _||_}
+-- How the code asks it: what functions inside promise and ask of each other, proved from the rules; nothing here has to be believed.
+use mathlib.Core.Path.{_≡_}
+use mathlib.Core.Bool.{Bool, true, not, _||_}
 use mathlib.Core.List.{List}
-use lib.Dec.{eqb}
+use Prim.Native.Nat.{ℕ}
 use Rattle.numbers.specs.Choose.{choose}
 use Rattle.pixels.specs.Pixels.{withPixel}
-use Rattle.rules.specs.Maps.{endHolds, isInside}
+use Rattle.rules.specs.Maps.{endHolds}
 use Rattle.moves.specs.declared.Setup.{Setup}
 use Rattle.moves.specs.declared.Pen.{Pen}
+use Rattle.moves.specs.Inner.{Pointed}
 use Rattle.position.specs.Places.{columnOf, onMap, inMask, isMove, isNulled}
 use Rattle.position.specs.Fates.{onZero, isCompared}
-use Rattle.position.specs.Drawn.{mixedPixel}
+use Rattle.position.specs.Drawn.{sourcePixel, mixedPixel}
+use Rattle.position.specs.Within.{sourceUsed}
 
 -- nothing is written, whatever the destination pixel is: every fate but the compare condition's
 unfoldable pub isLeftOut : Setup → List ℕ → Pen → Bool
@@ -23,9 +25,16 @@ writtenOf s memory pen =
     choose (isCompared s memory pen) memory
     (withPixel memory (s .destination) (columnOf (pen .destination .x)) (columnOf (pen .destination .y)) (mixedPixel s memory pen))
 
--- every used map ends within a memory of so many bytes, and the source and pattern pointers lie in theirs
-unfoldable pub isSafe : Setup → ℕ → Pen → Bool
-isSafe s length pen =
-    (endHolds length (s .destination) && (not (eqb (s .flow .mask) 2) || endHolds length (s .mask)))
-    && ((not (s .flow .source) || endHolds length (s .source)) && (not (s .flow .pattern) || endHolds length (s .pattern)))
-    && ((not (s .flow .source) || isInside (s .source) (pen .source)) && (not (s .flow .pattern) || isInside (s .pattern) (pen .pattern)))
+-- the source pixel as it is read, 0 where its map is not used
+unfoldable pub sourceRead : Setup → List ℕ → Pen → ℕ
+sourceRead s memory pen = choose (sourceUsed (s .flow)) (sourcePixel s memory pen) 0
+
+-- every used map ends within a memory of this size, and used source and pattern pointers lie in theirs: what every move keeps
+pub record Safe (s : Setup) (size : ℕ) (pen : Pen) : Type 0 where
+  pub destination : endHolds size (s .destination) ≡ true
+  pub mask : s .flow .mask ≡ 2 → endHolds size (s .mask) ≡ true
+  pub source : s .flow .source ≡ true → endHolds size (s .source) ≡ true
+  pub pattern : s .flow .pattern ≡ true → endHolds size (s .pattern) ≡ true
+  -- the source is read only where its map is used
+  pub used : sourceUsed (s .flow) ≡ true → s .flow .source ≡ true
+  pub pointed : Pointed s pen

@@ -1,5 +1,5 @@
 pub mod Places
 pub mod Fates
 pub mod Drawn
-pub mod Beyond
+pub mod Within
 pub mod Inner

@@ -1,14 +1,19 @@
 ghost use mathlib.Core.Path.{_≡_};
+ghost use mathlib.Core.Bool.{true};
+ghost use lib.ListN.{length};
 ghost use Rattle.numbers.specs.Choose.{choose};
 ghost use Rattle.pixels.specs.Maps.{bitsOf};
 ghost use Rattle.mixes.specs.Mixes.{mixed};
 ghost use Rattle.position.specs.Drawn as defined;
-ghost use Rattle.position.specs.Drawn.{sourcePixel, isForeground, inkOf, drawn};
-ghost use Rattle.position.specs.Inner.{writtenOf};
+ghost use Rattle.position.specs.Drawn.{isForeground, inkOf, drawn};
+ghost use Rattle.position.specs.Places.{onMap, inMask};
+ghost use Rattle.position.specs.Within.{sourceUsed, Within};
+ghost use Rattle.position.specs.Inner.{sourceRead, writtenOf};
 use crate::fates::is_compared;
 use crate::fates::is_left_out;
 use crate::places::destination_of;
 use mixes::mix;
+use moves::Flow;
 use moves::Pen;
 use moves::Setup;
 use parts::shapes::Ink;
@@ -18,22 +23,36 @@ use pixels::get;
 use pixels::store;
 use pixels::value;
 
-// The source pixel.
-fn source_pixel(setup: Setup, memory: &[u8], pen: Pen) -> u32
-    ensures { λ r. ⌜ r ≡ sourcePixel setup (now (memory .entry)) pen ⌝ }
+// Whether the source map is used: a source field is 10, or the pattern is made from the source.
+fn uses_source(flow: Flow) -> bool
+    ensures { λ r. ⌜ r ≡ sourceUsed flow ⌝ }
 {
-    get(memory, setup.source, pen.source.x, pen.source.y)
+    flow.foreground | flow.background | flow.derived
+}
+
+// The source pixel, and 0 where its map is not used.
+fn source_pixel(setup: Setup, memory: &[u8], pen: Pen) -> u32
+    requires { ⌜ Within setup (length (now memory)) pen ⌝ }
+    ensures { λ r. ⌜ r ≡ sourceRead setup (now (memory .entry)) pen ⌝ }
+{
+    let flow = setup.flow;
+    if uses_source(flow) {
+        get(memory, setup.source, pen.source.x, pen.source.y)
+    } else {
+        0
+    }
 }
 
 // Whether the pattern pixel is 1: its map's, the source's where it is derived, and otherwise always.
-fn is_foreground(setup: Setup, memory: &[u8], pen: Pen) -> bool
+fn is_foreground(setup: Setup, memory: &[u8], pen: Pen, source: u32) -> bool
+    requires { ⌜ Within setup (length (now memory)) pen × (source ≡ sourceRead setup (now memory) pen) ⌝ }
     ensures { λ r. ⌜ r ≡ isForeground setup (now (memory .entry)) pen ⌝ }
 {
     if setup.flow.pattern {
         return get(memory, setup.pattern, pen.pattern.x, pen.pattern.y) != 0;
     }
     if setup.flow.derived {
-        return source_pixel(setup, memory, pen) != 0;
+        return source != 0;
     }
     true
 }
@@ -61,36 +80,37 @@ fn takes_source(setup: Setup, foreground: bool) -> bool
 }
 
 // The source pixel or the colour, as the pattern picks.
-fn picked(setup: Setup, memory: &[u8], pen: Pen, foreground: bool, colour: u32) -> u32
-    ensures { λ r.
-        ⌜ r ≡ choose (choose foreground (setup .flow .foreground) (setup .flow .background)) (sourcePixel setup (now (memory .entry)) pen) colour ⌝ }
+fn picked(setup: Setup, foreground: bool, source: u32, colour: u32) -> u32
+    ensures { λ r. ⌜ r ≡ choose (choose foreground (setup .flow .foreground) (setup .flow .background)) source colour ⌝ }
 {
     if takes_source(setup, foreground) {
-        source_pixel(setup, memory, pen)
+        source
     } else {
         colour
     }
 }
 
-// A destination pixel after the mix, under the plane mask.
+// A destination pixel after the mix, under the plane mask. The source pixel is read once.
 fn mixed_pixel(setup: Setup, memory: &[u8], pen: Pen, destination: u32) -> u32
+    requires { ⌜ Within setup (length (now memory)) pen ⌝ }
     ensures { λ r.
         ⌜ r ≡ mixed (bitsOf (setup .destination .format)) (inkOf setup (now (memory .entry)) pen .mix) (setup .planes) (defined.picked setup (now (memory .entry)) pen) destination ⌝ }
 {
-    let foreground = is_foreground(setup, memory, pen);
+    let source = source_pixel(setup, memory, pen);
+    let foreground = is_foreground(setup, memory, pen, source);
     let ink = ink_of(setup, foreground);
-    let source = picked(setup, memory, pen, foreground, ink.colour);
     mix(
         bits_of(setup.destination.format),
         ink.mix,
         setup.planes,
-        source,
+        picked(setup, foreground, source, ink.colour),
         destination,
     )
 }
 
 // Writes the mix, unless the compare condition is true. The destination's byte is found and read once.
 fn write(setup: Setup, memory: &mut [u8], pen: Pen)
+    requires { ⌜ Within setup (length (now memory)) pen × (onMap setup pen ≡ true) × (inMask setup pen ≡ true) ⌝ }
     ensures { λ _. ⌜ now (memory .exit) ≡ writtenOf setup (now (memory .entry)) pen ⌝ }
 {
     let at = destination_of(pen);
@@ -102,8 +122,9 @@ fn write(setup: Setup, memory: &mut [u8], pen: Pen)
     }
 }
 
-// Draws one position: the mix where it is written, and nothing otherwise.
+// Draws one position, all of whose pixels lie in the memory: the mix where it is written, and nothing otherwise.
 pub fn draw(setup: Setup, memory: &mut [u8], pen: Pen)
+    requires { ⌜ Within setup (length (now memory)) pen ⌝ }
     ensures { λ _. ⌜ now (memory .exit) ≡ drawn setup (now (memory .entry)) pen ⌝ }
 {
     if !is_left_out(setup, memory, pen) {

@@ -1,7 +1,11 @@
 ghost use mathlib.Core.Path.{_≡_};
+ghost use mathlib.Core.Bool.{true};
+ghost use lib.ListN.{length};
 ghost use Rattle.pixels.specs.Maps.{bitsOf};
 ghost use Rattle.mixes.specs.Conditions.{conditionHolds};
+ghost use Rattle.position.specs.Places.{onMap, inMask};
 ghost use Rattle.position.specs.Fates.{onZero};
+ghost use Rattle.position.specs.Within.{Within};
 ghost use Rattle.position.specs.Inner.{isLeftOut};
 use crate::places::in_mask;
 use crate::places::is_move;
@@ -14,8 +18,9 @@ use moves::Setup;
 use pixels::bits_of;
 use pixels::get;
 
-// Whether the mask pixel is 0, where its map is used.
+// Whether the mask pixel is 0, where its map is used; the destination is inside its map and the mask boundary.
 fn is_on_zero(setup: Setup, memory: &[u8], pen: Pen) -> bool
+    requires { ⌜ Within setup (length (now memory)) pen × (onMap setup pen ≡ true) × (inMask setup pen ≡ true) ⌝ }
     ensures { λ r. ⌜ r ≡ onZero setup (now (memory .entry)) pen ⌝ }
 {
     if setup.flow.mask != 2 {
@@ -27,6 +32,7 @@ fn is_on_zero(setup: Setup, memory: &[u8], pen: Pen) -> bool
 
 // Whether the position is left out whatever its destination pixel is: a move code, nulled, outside, or on a 0 mask pixel.
 pub(crate) fn is_left_out(setup: Setup, memory: &[u8], pen: Pen) -> bool
+    requires { ⌜ Within setup (length (now memory)) pen ⌝ }
     ensures { λ r. ⌜ r ≡ isLeftOut setup (now (memory .entry)) pen ⌝ }
 {
     let drawing = pen.drawing;

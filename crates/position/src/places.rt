@@ -20,11 +20,7 @@ fn is_within(origin: u16, last: u16, z: i16) -> bool
     ensures { λ r. ⌜ r ≡ isWithin last (z -ℤ pos origin) ⌝ }
 {
     let place = place_from(origin, z);
-    if place < 0 {
-        false
-    } else {
-        place as u32 <= last as u32
-    }
+    (0 <= place) & (place <= last as i32)
 }
 
 // The same place as a column or row, 0 where it is below 0.
@@ -56,7 +52,7 @@ pub(crate) fn mask_of(setup: Setup, pen: Pen) -> Point
 }
 
 // Whether the destination is inside its map.
-pub fn on_map(setup: Setup, pen: Pen) -> bool
+pub(crate) fn on_map(setup: Setup, pen: Pen) -> bool
     ensures { λ r. ⌜ r ≡ onMap setup pen ⌝ }
 {
     both(
@@ -66,7 +62,7 @@ pub fn on_map(setup: Setup, pen: Pen) -> bool
 }
 
 // Whether the destination is inside the mask boundary, where there is one.
-pub fn in_mask(setup: Setup, pen: Pen) -> bool
+pub(crate) fn in_mask(setup: Setup, pen: Pen) -> bool
     ensures { λ r. ⌜ r ≡ inMask setup pen ⌝ }
 {
     if setup.flow.mask == 0 {
@@ -79,7 +75,7 @@ pub fn in_mask(setup: Setup, pen: Pen) -> bool
 }
 
 // Whether the code in hand only moves: bit 4 draws.
-pub fn is_move(setup: Setup, drawing: Drawing) -> bool
+pub(crate) fn is_move(setup: Setup, drawing: Drawing) -> bool
     ensures { λ r. ⌜ r ≡ isMove setup drawing ⌝ }
 {
     match drawing {
@@ -126,7 +122,7 @@ fn is_last(setup: Setup, drawing: Drawing) -> bool
 }
 
 // Whether the drawing mode leaves this position out: first null the first of each line and code, last null the last.
-pub fn is_nulled(setup: Setup, drawing: Drawing) -> bool
+pub(crate) fn is_nulled(setup: Setup, drawing: Drawing) -> bool
     ensures { λ r. ⌜ r ≡ isNulled setup drawing ⌝ }
 {
     let nulls = setup.flow.nulls;

@@ -30,14 +30,22 @@ remainder-lt x last limit = lt-of-le-of-lt (mod-le x (last + 1))
 -- ---- one pointer
 
 module _ (map : Map) (p : Point) where
+  pub inside-x : isInside map p ≡ true → p .x ≤ map .width
+  unfolding isInside
+  inside-x h = leb-true (p .x) (map .width) (search (h, and-left))
+
+  pub inside-y : isInside map p ≡ true → p .y ≤ map .height
+  unfolding isInside
+  inside-y h = leb-true (p .y) (map .height) (search (h, and-right))
+
   pub inside-turned : isInside map (turned map p) ≡ true
   unfolding isInside turned
   inside-turned = rw (le-leb _ _ (remainder-le (p .x) (map .width)), le-leb _ _ (remainder-le (p .y) (map .height)))
 
   pub turned-inside : isInside map p ≡ true → turned map p ≡ p
-  unfolding isInside turned
+  unfolding turned
   turned-inside h =
-      rw (remainder-self _ _ (leb-true (p .x) (map .width) (search (and-left, and-right))), remainder-self _ _ (leb-true (p .y) (map .height) (search (and-left, and-right))))
+      rw (remainder-self _ _ (inside-x h), remainder-self _ _ (inside-y h))
 
   pub turned-reduced : pointReduced p ≡ true → pointReduced (turned map p) ≡ true
   unfolding pointReduced turned

@@ -1,5 +1,5 @@
 -- A start is accepted exactly where its four rules hold: a rule that fails answers before Accepted is reached.
-use mathlib.Core.Path.{_≡_, refl, ap}
+use mathlib.Core.Path.{_≡_, refl}
 use mathlib.Core.Bool.{true, not}
 use mathlib.Core.List.{List}
 use Prim.Native.Nat.{ℕ}
@@ -22,10 +22,10 @@ module _ (operations foreground background : ℕ) (maps : List Map) (size : ℕ)
   unfolding startRefusal
   start-accepted h = rw (h .fields, h .mixes, h .formats, h .ends)
 
-  pub accepted-holds : startRefusal operations foreground background maps size ≡ Accepted → Holds
+  pub accepted-holds : isAccepted (startRefusal operations foreground background maps size) ≡ true → Holds
   unfolding startRefusal
   accepted-holds e =
-      let fields = passed (not (fieldsHold operations)) _ _ (λ t. refl) (ap isAccepted e) in
+      let fields = passed (not (fieldsHold operations)) _ _ (λ t. refl) e in
       let mixes = passed (not (mixesHold foreground background)) _ _ (λ t. refl) (fields .1) in
       let formats = passed (not (formatsHold operations maps)) _ _ (λ t. refl) (mixes .1) in
       let ends = passed (not (endsHold operations maps size)) _ _ (λ t. refl) (formats .1) in

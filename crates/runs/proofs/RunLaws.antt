@@ -6,7 +6,6 @@ use mathlib.Core.Logic.{_⊎_, inl, inr, ⊎-elim}
 use Prim.Native.Nat.{ℕ, zero, suc, _+_, _≤_, min}
 use native.Mathlib.Omega.{arith}
 use lib.ListN.{length, getD}
-use Rattle.numbers.specs.Choose.{choose}
 use Rattle.pixels.specs.Maps.{placeOf}
 use Rattle.parts.specs.declared.drawing.Drawing.{Drawing}
 use Rattle.parts.specs.declared.drawing.Drawing.the-variants.{Nothing, Line, Codes, Block}
@@ -16,99 +15,76 @@ use Rattle.rules.specs.Totals.{leftOf}
 use Rattle.rules.proofs.TotalLaws.{left-idle, left-some}
 use Rattle.moves.specs.declared.Setup.{Setup}
 use Rattle.moves.specs.declared.Pen.{Pen}
-use Rattle.moves.specs.Moves.{penWith}
 use Rattle.moves.proofs.Counters.{left-moved, counters-moved}
-use Rattle.position.specs.Beyond.{isBeyond}
+use Rattle.position.specs.Inner.{Safe}
+use Rattle.position.proofs.Safety.{safe-moved}
 use Rattle.position.proofs.Writing.{length-drawn, drawn-other}
-use Rattle.runs.specs.Runs.{Run, begun, positioned, ended, stepped, after}
-use Rattle.runs.proofs.AfterLaws.{stepped-idle, stepped-beyond, stepped-on, after-add}
+use Rattle.runs.specs.Runs.{Run, begun, positioned, stepped, after}
+use Rattle.runs.proofs.AfterLaws.{stepped-idle, stepped-on, after-add}
 
 -- ---- what each step keeps
 
--- one position, by its three cases
+-- one position, by its two cases
 pub by-stepped : (s : Setup) (t : Run) (P : Run → Type 0) → (unfinished (t .pen .drawing) ≡ false → P t)
-    → (unfinished (t .pen .drawing) ≡ true → isBeyond s (length (t .memory)) (t .pen) ≡ true → P (ended t))
-    → (unfinished (t .pen .drawing) ≡ true → isBeyond s (length (t .memory)) (t .pen) ≡ false → P (positioned s t))
+    → (unfinished (t .pen .drawing) ≡ true → P (positioned s t))
     → P (stepped s t)
-by-stepped s t P idle far on = by (unfinished (t .pen .drawing)) (isBeyond s (length (t .memory)) (t .pen)) refl refl
+by-stepped s t P idle on = by (unfinished (t .pen .drawing)) refl
   where
-    by : (u b : Bool) → unfinished (t .pen .drawing) ≡ u → isBeyond s (length (t .memory)) (t .pen) ≡ b → P (stepped s t)
-    by false b e f = rw (stepped-idle s t e) (idle e)
-    by true true e f = rw (stepped-beyond s t e f) (far e f)
-    by true false e f = rw (stepped-on s t e f) (on e f)
+    by : (u : Bool) → unfinished (t .pen .drawing) ≡ u → P (stepped s t)
+    by false e = rw (stepped-idle s t e) (idle e)
+    by true e = rw (stepped-on s t e) (on e)
 
-module _ (s : Setup) (P : Run → Type 0)
-    (far : (t : Run) → unfinished (t .pen .drawing) ≡ true → isBeyond s (length (t .memory)) (t .pen) ≡ true → P t → P (ended t))
-    (on : (t : Run) → unfinished (t .pen .drawing) ≡ true → isBeyond s (length (t .memory)) (t .pen) ≡ false → P t → P (positioned s t)) where
-  -- what a position and a byte beyond the memory keep, a run keeps
+module _ (s : Setup) (P : Run → Type 0) (on : (t : Run) → unfinished (t .pen .drawing) ≡ true → P t → P (positioned s t)) where
+  -- what a position keeps, a run keeps
   pub kept-after : (n : ℕ) (t : Run) → P t → P (after s n t)
   unfolding after
   kept-after zero t h = h
   kept-after (suc n) t h =
       let u : Run = after s n t in
       let held : P u = kept-after n t h in
-      by-stepped s u P (λ idle. held) (λ going beyond. far u going beyond held) (λ going within. on u going within held)
+      by-stepped s u P (λ idle. held) (λ going. on u going held)
 
 -- ---- the memory
 
 pub length-after : (s : Setup) (n : ℕ) (t : Run) → length (after s n t .memory) ≡ length (t .memory)
-unfolding ended positioned
+unfolding positioned
 length-after s n t =
-    kept-after s (λ u. length (u .memory) ≡ length (t .memory)) (λ u going beyond h. h)
-    (λ u going within h. length-drawn s (u .memory) (u .pen) ∙ h) n t refl
+    kept-after s (λ u. length (u .memory) ≡ length (t .memory)) (λ u going h. length-drawn s (u .memory) (u .pen) ∙ h) n t refl
 
 -- a byte of no pixel of the destination map stays
 pub bytes-after : (s : Setup) (j : ℕ) → ((x y : ℕ) → x ≤ s .destination .width → y ≤ s .destination .height → j ≡ placeOf (s .destination) x y → ⊥)
     → (n : ℕ) (t : Run) → getD (after s n t .memory) j 0 ≡ getD (t .memory) j 0
-unfolding ended positioned
+unfolding positioned
 bytes-after s j ne n t =
-    kept-after s (λ u. getD (u .memory) j 0 ≡ getD (t .memory) j 0) (λ u going beyond h. h)
-    (λ u going within h. drawn-other s (u .memory) (u .pen) j ne ∙ h) n t refl
+    kept-after s (λ u. getD (u .memory) j 0 ≡ getD (t .memory) j 0) (λ u going h. drawn-other s (u .memory) (u .pen) j ne ∙ h) n t refl
+
+-- every position of a safe drawing is safe
+pub safe-after : (s : Setup) (size n : ℕ) (t : Run) → Safe s size (t .pen) → Safe s size (after s n t .pen)
+unfolding positioned
+safe-after s size n t h = kept-after s (λ u. Safe s size (u .pen)) (λ u going held. safe-moved s size (u .pen) held) n t h
 
 -- ---- what came before
 
--- a run that had k positions done before, and a byte beyond the memory if b
-unfoldable pub since : ℕ → Bool → Run → Run
-since k b u = record { pen = u .pen; memory = u .memory; done = k + u .done; beyond = choose (u .beyond) true b }
+-- a run that had k positions done before
+unfoldable pub since : ℕ → Run → Run
+since k u = record { pen = u .pen; memory = u .memory; done = k + u .done }
 
-pub since-begun : (t : Run) → since (t .done) (t .beyond) (begun (t .pen) (t .memory)) ≡ t
+pub since-begun : (t : Run) → since (t .done) (begun (t .pen) (t .memory)) ≡ t
 unfolding since begun
-since-begun t =
-    let same : t .done + 0 ≡ t .done = omega arith in
-    λ i. record { pen = t .pen; memory = t .memory; done = same i; beyond = t .beyond }
+since-begun t = let same : t .done + 0 ≡ t .done = omega arith in λ i. record { pen = t .pen; memory = t .memory; done = same i }
 
-since-stepped : (s : Setup) (k : ℕ) (b : Bool) (u : Run) → stepped s (since k b u) ≡ since k b (stepped s u)
-unfolding since positioned ended
-since-stepped s k b u =
-    by-stepped s u (λ v. stepped s (since k b u) ≡ since k b v) (λ idle. stepped-idle s (since k b u) idle)
-    (λ going beyond. stepped-beyond s (since k b u) going beyond)
-    (λ going within.
+since-stepped : (s : Setup) (k : ℕ) (u : Run) → stepped s (since k u) ≡ since k (stepped s u)
+unfolding since positioned
+since-stepped s k u =
+    by-stepped s u (λ v. stepped s (since k u) ≡ since k v) (λ idle. stepped-idle s (since k u) idle)
+    (λ going.
     let more : k + u .done + 1 ≡ k + (u .done + 1) = omega arith in
-    stepped-on s (since k b u) going within ∙ (λ i. record { pen = positioned s u .pen; memory = positioned s u .memory; done = more i; beyond = choose (u .beyond) true b }))
+    stepped-on s (since k u) going ∙ (λ i. record { pen = positioned s u .pen; memory = positioned s u .memory; done = more i }))
 
-pub since-after : (s : Setup) (n k : ℕ) (b : Bool) (u : Run) → after s n (since k b u) ≡ since k b (after s n u)
+pub since-after : (s : Setup) (n k : ℕ) (u : Run) → after s n (since k u) ≡ since k (after s n u)
 unfolding after
-since-after s zero k b u = refl
-since-after s (suc n) k b u = rw (since-after s n k b u) (since-stepped s k b (after s n u))
-
--- a run does not look at what came before: it goes as one that begins with its pen and memory
-pub record Rebased (s : Setup) (n : ℕ) (t : Run) : Type 0 where
-  pub pen : after s n t .pen ≡ after s n (begun (t .pen) (t .memory)) .pen
-  pub memory : after s n t .memory ≡ after s n (begun (t .pen) (t .memory)) .memory
-  pub done : after s n t .done ≡ t .done + after s n (begun (t .pen) (t .memory)) .done
-  pub beyond : after s n t .beyond ≡ choose (after s n (begun (t .pen) (t .memory)) .beyond) true (t .beyond)
-
-pub rebased : (s : Setup) (n : ℕ) (t : Run) → Rebased s n t
-unfolding since
-rebased s n t =
-    let u : Run = begun (t .pen) (t .memory) in
-    let same : after s n t ≡ since (t .done) (t .beyond) (after s n u) = ap (after s n) (sym (since-begun t)) ∙ since-after s n (t .done) (t .beyond) u in
-    record {
-      pen = ap (λ (r : Run). r .pen) same;
-      memory = ap (λ (r : Run). r .memory) same;
-      done = ap (λ (r : Run). r .done) same;
-      beyond = ap (λ (r : Run). r .beyond) same;
-    }
+since-after s zero k u = refl
+since-after s (suc n) k u = rw (since-after s n k u) (since-stepped s k (after s n u))
 
 -- ---- two runs in a row
 
@@ -117,21 +93,16 @@ pub record Added (first second whole : Run) : Type 0 where
   pub pen : whole .pen ≡ second .pen
   pub memory : whole .memory ≡ second .memory
   pub done : whole .done ≡ first .done + second .done
-  pub beyond : whole .beyond ≡ choose (second .beyond) true (first .beyond)
 
 -- the run of a + b positions is the run of a, and from where that ends the run of b
 pub run-add : (s : Setup) (pen : Pen) (memory : List ℕ) (a b : ℕ)
     → let u : Run = after s a (begun pen memory) in
     Added u (after s b (begun (u .pen) (u .memory))) (after s (a + b) (begun pen memory))
+unfolding since
 run-add s pen memory a b =
-    let split = after-add s a b (begun pen memory) in
-    let r = rebased s b (after s a (begun pen memory)) in
-    record {
-      pen = ap (λ (v : Run). v .pen) split ∙ r .pen;
-      memory = ap (λ (v : Run). v .memory) split ∙ r .memory;
-      done = ap (λ (v : Run). v .done) split ∙ r .done;
-      beyond = ap (λ (v : Run). v .beyond) split ∙ r .beyond;
-    }
+    let u : Run = after s a (begun pen memory) in
+    let whole = after-add s a b (begun pen memory) ∙ ap (after s b) (sym (since-begun u)) ∙ since-after s b (u .done) (begun (u .pen) (u .memory)) in
+    record { pen = ap (λ (v : Run). v .pen) whole; memory = ap (λ (v : Run). v .memory) whole; done = ap (λ (v : Run). v .done) whole }
 
 -- ---- the positions left
 
@@ -145,37 +116,34 @@ idle-left s (Line done) e = absurd (false≢true (sym e))
 idle-left s (Codes count code done) e = absurd (false≢true (sym e))
 idle-left s (Block column row) e = absurd (false≢true (sym e))
 
--- no run does more positions than it may, and one that does fewer ends idle or beyond the memory
+-- no run does more positions than it may, and one that does fewer ends idle
 reached : (s : Setup) (pen : Pen) (memory : List ℕ) (n : ℕ)
     → let u : Run = after s n (begun pen memory) in
-    (u .done ≤ n) × (u .beyond ≡ false → (u .done ≡ n) ⊎ (unfinished (u .pen .drawing) ≡ false))
-unfolding after begun positioned ended
-reached s pen memory zero = (omega arith, λ near. inl refl)
+    (u .done ≤ n) × ((u .done ≡ n) ⊎ (unfinished (u .pen .drawing) ≡ false))
+unfolding after begun positioned
+reached s pen memory zero = (omega arith, inl refl)
 reached s pen memory (suc n) =
     let u : Run = after s n (begun pen memory) in
     let held = reached s pen memory n in
     let few : u .done ≤ n = held .0 in
-    by-stepped s u (λ (v : Run). (v .done ≤ suc n) × (v .beyond ≡ false → (v .done ≡ suc n) ⊎ (unfinished (v .pen .drawing) ≡ false)))
-    (λ idle. (omega arith, λ near. inr idle))
-    (λ going far. (omega arith, λ near. absurd (false≢true (sym near))))
-    (λ going within. (
+    by-stepped s u (λ (v : Run). (v .done ≤ suc n) × ((v .done ≡ suc n) ⊎ (unfinished (v .pen .drawing) ≡ false)))
+    (λ idle. (omega arith, inr idle))
+    (λ going. (
       omega arith,
-      λ near.
-          ⊎-elim (λ (all : u .done ≡ n). inl (omega arith)) (λ idle. absurd (false≢true (sym idle ∙ going))) (held .1 near),
+      ⊎-elim (λ (all : u .done ≡ n). inl (omega arith)) (λ idle. absurd (false≢true (sym idle ∙ going))) (held .1),
     ))
 
 -- a run is that of exactly the positions that it did, whatever more it was allowed
-pub after-done : (s : Setup) (pen : Pen) (memory : List ℕ) (n : ℕ) → after s n (begun pen memory) .beyond ≡ false
+pub after-done : (s : Setup) (pen : Pen) (memory : List ℕ) (n : ℕ)
     → after s (after s n (begun pen memory) .done) (begun pen memory) ≡ after s n (begun pen memory)
-unfolding after begun positioned ended
-after-done s pen memory zero = λ near. refl
+unfolding after begun positioned
+after-done s pen memory zero = refl
 after-done s pen memory (suc n) =
     let u : Run = after s n (begun pen memory) in
-    by-stepped s u (λ (v : Run). v .beyond ≡ false → after s (v .done) (begun pen memory) ≡ v)
-    (λ idle near. after-done s pen memory n near)
-    (λ going far near. absurd (false≢true (sym near)))
-    (λ going within near.
-    ⊎-elim (λ (all : u .done ≡ n). ap (λ k. after s k (begun pen memory)) (let more : u .done + 1 ≡ suc n = omega arith in more) ∙ stepped-on s u going within) (λ idle. absurd (false≢true (sym idle ∙ going))) (reached s pen memory n .1 near))
+    by-stepped s u (λ (v : Run). after s (v .done) (begun pen memory) ≡ v)
+    (λ idle. after-done s pen memory n)
+    (λ going.
+    ⊎-elim (λ (all : u .done ≡ n). ap (λ k. after s k (begun pen memory)) (let more : u .done + 1 ≡ suc n = omega arith in more) ∙ stepped-on s u going) (λ idle. absurd (false≢true (sym idle ∙ going))) (reached s pen memory n .1))
 
 module _ (operations : ℕ) (s : Setup) where
   abbrev holds : Pen → Bool
@@ -185,40 +153,33 @@ module _ (operations : ℕ) (s : Setup) where
   left pen = leftOf (s .dimensions) (s .steps) (pen .drawing)
 
   pub counters-after : (n : ℕ) (t : Run) → holds (t .pen) ≡ true → holds (after s n t .pen) ≡ true
-  unfolding ended positioned penWith countersHold
+  unfolding positioned
   counters-after n t h =
-      kept-after s (λ u. holds (u .pen) ≡ true) (λ u going far held. refl)
-      (λ u going within held. counters-moved operations s (u .pen) held) n t h
+      kept-after s (λ u. holds (u .pen) ≡ true) (λ u going held. counters-moved operations s (u .pen) held) n t h
 
-  -- the positions done and those left are together the same, while none lies beyond the memory
-  pub sum-after : (n : ℕ) (t : Run) → holds (t .pen) ≡ true → after s n t .beyond ≡ false
-      → left (after s n t .pen) + after s n t .done ≡ left (t .pen) + t .done
-  unfolding ended positioned penWith countersHold
+  -- the positions done and those left are together the same
+  pub sum-after : (n : ℕ) (t : Run) → holds (t .pen) ≡ true → left (after s n t .pen) + after s n t .done ≡ left (t .pen) + t .done
+  unfolding positioned
   sum-after n t h =
-      kept-after s (λ u. (holds (u .pen) ≡ true) × (u .beyond ≡ false → left (u .pen) + u .done ≡ left (t .pen) + t .done))
-      (λ u going far held. (refl, λ near. absurd (false≢true (sym near))))
-      (λ u going within held. (
-        counters-moved operations s (u .pen) (held .0),
-        λ near.
-            let fewer = left-moved operations s (u .pen) (held .0) (in-hand (u .pen .drawing) going) in
-            let same = held .1 near in
-            omega arith,
-      )) n t (h, λ near. refl) .1
+      kept-after s (λ u. (holds (u .pen) ≡ true) × (left (u .pen) + u .done ≡ left (t .pen) + t .done))
+      (λ u going held.
+      let fewer = left-moved operations s (u .pen) (held .0) (in-hand (u .pen .drawing) going) in
+      let same = held .1 in
+      (counters-moved operations s (u .pen) (held .0), omega arith)) n t (h, refl) .1
 
   module _ (pen : Pen) (memory : List ℕ) (n : ℕ) (h : holds pen ≡ true) where
-    pub left-after : after s n (begun pen memory) .beyond ≡ false
-        → left (after s n (begun pen memory) .pen) + after s n (begun pen memory) .done ≡ left pen
+    pub left-after : left (after s n (begun pen memory) .pen) + after s n (begun pen memory) .done ≡ left pen
     unfolding begun
-    left-after near = let sum = sum-after n (begun pen memory) h near in omega arith
+    left-after = let sum = sum-after n (begun pen memory) h in omega arith
 
-    pub done-after : after s n (begun pen memory) .beyond ≡ false → after s n (begun pen memory) .done ≡ min n (left pen)
-    done-after near =
+    pub done-after : after s n (begun pen memory) .done ≡ min n (left pen)
+    done-after =
         let u : Run = after s n (begun pen memory) in
-        let sum : left (u .pen) + u .done ≡ left pen = left-after near in
+        let sum : left (u .pen) + u .done ≡ left pen = left-after in
         let held = reached s pen memory n in
         let few : u .done ≤ n = held .0 in
         ⊎-elim (λ (all : u .done ≡ n). omega arith)
-        (λ idle. let none : left (u .pen) ≡ 0 = idle-left s (u .pen .drawing) idle in omega arith) (held .1 near)
+        (λ idle. let none : left (u .pen) ≡ 0 = idle-left s (u .pen .drawing) idle in omega arith) (held .1)
 
     -- a run ends idle exactly where none is left
     pub idle-after-all : (unfinished (after s n (begun pen memory) .pen .drawing) ≡ false → left (after s n (begun pen memory) .pen) ≡ 0)

@@ -9,8 +9,8 @@ pub done-text : answerText (Done 2) 7 ≡ 0x6F ∷ 0x6B ∷ 0x20 ∷ 0x32 ∷ 0x
 unfolding decimal numbered answerText
 done-text = refl
 
--- "no 11" and a newline
-pub refused-text : answerText (Refused 11) 7 ≡ 0x6E ∷ 0x6F ∷ 0x20 ∷ 0x31 ∷ 0x31 ∷ 0x0A ∷ []
+-- "no 10" and a newline
+pub refused-text : answerText (Refused 10) 7 ≡ 0x6E ∷ 0x6F ∷ 0x20 ∷ 0x31 ∷ 0x30 ∷ 0x0A ∷ []
 unfolding decimal numbered answerText
 refused-text = refl
 

@@ -1,23 +1,23 @@
 -- The calls on a state image keep what the calls on a record promise: an image that loads is that of the record that it loads to, and every call leaves a valid record and saves it over the image, so the new image loads to that record.
 use mathlib.Core.Path.{_≡_, refl, sym, ap, _∙_}
-use mathlib.Core.Bool.{true, false, _&&_}
+use mathlib.Core.Bool.{Bool, true, false}
 use mathlib.Core.List.{List, [], _∷_, _++_}
-use Prim.Native.Nat.{ℕ, zero, suc, _+_, _/_, _<_, min}
+use Prim.Native.Nat.{ℕ, zero, suc, _+_, _/_, _^_, _<_, min}
 use native.Mathlib.Omega.{arith}
+use lib.Arith.{digits-div, digits-mod}
 use lib.Dec.{lit<}
 use lib.ListN.{length, getD}
-use borrow.Author.Tests.{eq-eqb, ne-eqb}
+use borrow.Author.Tests.{eqb-true, eq-eqb, ne-eqb}
 use Rattle.numbers.specs.Choose.{choose}
 use Rattle.numbers.specs.Bytes.{le}
 use Rattle.numbers.specs.declared.bytes.Write.{Write}
 use Rattle.numbers.proofs.Choices.{by-test}
-use Rattle.parts.specs.declared.refusals.Refusal.the-variants.{Accepted}
-use Rattle.parts.specs.Refusals.{isAccepted}
+use Rattle.parts.specs.declared.refusals.Refusal.{Refusal}
+use Rattle.parts.specs.Refusals.{isAccepted, numberOf}
 use Rattle.parts.proofs.RefusalLaws.{number-accepted}
 use Rattle.image.specs.Fields.{Field, laid}
 use Rattle.coprocessor.specs.declared.Coprocessor.{Coprocessor}
 use Rattle.coprocessor.specs.declared.Written.{Written}
-use Rattle.coprocessor.specs.declared.Drawn.{Drawn}
 use Rattle.coprocessor.specs.Fresh.{sizeHolds, freshAnswer}
 use Rattle.coprocessor.specs.Valid.{validOf}
 use Rattle.coprocessor.specs.Writes.{writeRefusal, writeAnswer}
@@ -27,11 +27,12 @@ use Rattle.board.specs.Calls.{answerOf, freshImage, writeNumber, writeImage, ru
 use Rattle.theorems.specs.Held.{Held}
 use Rattle.theorems.specs.Totals.{leftIn}
 use Rattle.theorems.specs.LoadsTo.{LoadsTo}
-use Rattle.theorems.proofs.Refused.{write-refused, fresh-answer-valid}
+use Rattle.theorems.specs.BoardCuts.{refusalIn, valueIn}
+use Rattle.theorems.proofs.Refused.{write-refused, run-refused, fresh-answer-valid}
 use Rattle.theorems.proofs.ValidWrites.{write-valid}
 use Rattle.theorems.proofs.HeldWrites.{held-fresh, held-written}
 use Rattle.theorems.proofs.RunValid.{run-valid}
-use Rattle.theorems.proofs.RunCalls.{Continued, run-refused, accepts, run-done-answered, run-run}
+use Rattle.theorems.proofs.RunCalls.{Continued, accepts, run-done, done-le, run-run}
 use Rattle.theorems.proofs.ImageLaws.{length-image, loaded-image, loads-image}
 use Rattle.theorems.proofs.LoadedLaws.{loaded-valid, image-loaded, save-load, held-loaded}
 use Rattle.theorems.proofs.HeldRuns.{held-run}
@@ -59,7 +60,7 @@ saved-loads c image long held v =
     rw (eq-eqb (length image) 115 long, v) (record { bytes = image-small c; accepted = loads-image c held v; record-same = loaded-image c held v })
 
 -- a record has one image
-one-image : {a b : List ℕ} {c d : Coprocessor} → LoadsTo a c → c ≡ d → LoadsTo b d → a ≡ b
+pub one-image : {a b : List ℕ} {c d : Coprocessor} → LoadsTo a c → c ≡ d → LoadsTo b d → a ≡ b
 one-image {a} {b} p same q =
     sym (image-loaded a (p .accepted) (p .bytes)) ∙ ap imageOf (p .record-same ∙ same ∙ sym (q .record-same)) ∙ image-loaded b (q .accepted) (q .bytes)
 
@@ -105,32 +106,57 @@ image-written image w bytes e =
 
 -- ---- a run
 
--- 01, Numbers a call answers with: refusal 9 or 10 in a run does 0 positions
-pub image-run-refused : (image memory : List ℕ) (n : ℕ) → ((i : ℕ) → getD image i 0 < 256) → (loads image && isAccepted (runRefusal (loaded image) memory)) ≡ false
-    → (runImage image memory n ≡ image) × (runBytes image memory n ≡ memory)
-unfolding runImage runBytes
-image-run-refused image memory n bytes refused =
-    let none : (e : loads image ≡ true) → _ = λ e. run-refused (loaded image) memory n (rw e at refused) in
-    (stays image bytes _ (λ e. ap (λ (d : Drawn). d .coprocessor) (none e .1)), by-test (λ (m : List ℕ). m ≡ memory) (loads image) (λ e. none e .0) (λ fails. refl))
+-- a refusal and a value of 32 bits are the two halves of their answer
+answer-halves : (r : Refusal) (v : ℕ) → v < 2 ^ 32 → (refusalIn (answerOf r v) ≡ numberOf r) × (valueIn (answerOf r v) ≡ v)
+unfolding answerOf refusalIn valueIn
+answer-halves r v small = (digits-div (numberOf r) small, digits-mod (numberOf r) small)
 
--- docs/DECISIONS.md, 32: the image after a run is that of the record after it, also where a byte lay beyond the memory
+-- what a run answers, for an image that loads
+pub image-run-answer : (image memory : List ℕ) (n : ℕ) → n < 2 ^ 32 → loads image ≡ true
+    → (refusalIn (runNumber image memory n) ≡ numberOf (runAnswer (loaded image) memory n .refusal))
+    × (valueIn (runNumber image memory n) ≡ runAnswer (loaded image) memory n .done)
+unfolding runNumber
+image-run-answer image memory n small e =
+    let few = done-le (loaded image) memory n in
+    rw e (answer-halves (runAnswer (loaded image) memory n .refusal) (runAnswer (loaded image) memory n .done) (omega (arith, few)))
+
+-- a number above 0 is a refusal
+refused-number : (r : Refusal) → (numberOf r ≡ 0 → ⊥) → isAccepted r ≡ false
+refused-number r some = sym (number-accepted r) ∙ ne-eqb (numberOf r) 0 some
+
+pub memory-ran : (image memory : List ℕ) (n : ℕ) → loads image ≡ true → runBytes image memory n ≡ runMemory (loaded image) memory n
+unfolding runBytes
+memory-ran image memory n e = rw e
+
+-- 01, Numbers a call answers with: a refused run does 0 positions
+pub image-run-refused : (image memory : List ℕ) (n : ℕ) → ((i : ℕ) → getD image i 0 < 256) → n < 2 ^ 32 → (refusalIn (runNumber image memory n) ≡ 0 → ⊥)
+    → (runImage image memory n ≡ image) × (runBytes image memory n ≡ memory) × (valueIn (runNumber image memory n) ≡ 0)
+unfolding runNumber runImage runBytes valueIn
+image-run-refused image memory n bytes small refused = by (loads image) refl
+  where
+    by : (t : Bool) → loads image ≡ t → (runImage image memory n ≡ image) × (runBytes image memory n ≡ memory) × (valueIn (runNumber image memory n) ≡ 0)
+    by true e =
+        let answer = image-run-answer image memory n small e in
+        let none = run-refused (loaded image) memory n (refused-number (runAnswer (loaded image) memory n .refusal) (λ zero. refused (answer .0 ∙ zero))) in
+        (stays image bytes _ (λ loads. none .2), memory-ran image memory n e ∙ none .0, answer .1 ∙ none .1)
+    by false e = (rw e, rw e, rw e)
+
+-- docs/DECISIONS.md, 32: the image after a run is that of the record after it
 pub image-ran : (image memory : List ℕ) (n : ℕ) → ((i : ℕ) → getD image i 0 < 256) → loads image ≡ true
     → LoadsTo (runImage image memory n) (runAnswer (loaded image) memory n .coprocessor)
 unfolding runImage
 image-ran image memory n bytes e =
     anew image bytes _ e (held-run (loaded image) memory n (held-loaded image bytes)) (run-valid (loaded image) memory n (loaded-valid image e))
 
--- 01, The functions: the positions that an accepted run answers are the smaller of the allowance and the positions left
-pub image-run-done : (image memory : List ℕ) (n : ℕ) → loads image ≡ true → runAnswer (loaded image) memory n .refusal ≡ Accepted
+-- 01, The functions: a run over a memory of the state's size answers the smaller of the allowance and the positions left
+pub image-run-done : (image memory : List ℕ) (n : ℕ) → loads image ≡ true → length memory ≡ loaded image .size
     → runNumber image memory n ≡ min n (leftIn (loaded image))
-unfolding runNumber answerOf
-image-run-done image memory n e accepted =
-    let done = run-done-answered (loaded image) memory n accepted in
-    rw (e, accepted) (omega (arith, done))
-
-memory-ran : (image memory : List ℕ) (n : ℕ) → loads image ≡ true → runBytes image memory n ≡ runMemory (loaded image) memory n
-unfolding runBytes
-memory-ran image memory n e = rw e
+unfolding runNumber answerOf runAnswer
+image-run-done image memory n e same =
+    let accepted = accepts (loaded image) memory same (loaded-valid image e) in
+    let none : numberOf (runRefusal (loaded image) memory) ≡ 0 = eqb-true _ 0 (number-accepted (runRefusal (loaded image) memory) ∙ accepted) in
+    let done = run-done (loaded image) memory accepted n in
+    rw e (omega (arith, none, done))
 
 -- 01, How tight the promises are, point 3: two runs in a row are one; the image is all the state there is, so the second may be on another board
 pub image-run-run : (image memory : List ℕ) (a b : ℕ) → ((i : ℕ) → getD image i 0 < 256) → loads image ≡ true → length memory ≡ loaded image .size

@@ -1,71 +1,100 @@
--- A drawing cut and carried as often as one likes ends as the uncut one: two runs in a row are one, and what is saved and loaded is the same record, so the events fold into one run, from the first on.
+-- A drawing cut and carried as often as one likes ends as the uncut one: two runs in a row are one, what is saved and loaded is the same record, and a refused call changes nothing, so the events fold into one run, from the first on.
 use mathlib.Core.Path.{_≡_, refl, sym, ap, _∙_}
-use mathlib.Core.Bool.{Bool, true, false, _&&_, and-true}
+use mathlib.Core.Bool.{true}
 use mathlib.Core.List.{List, [], _∷_}
 use Prim.Native.Nat.{ℕ, _+_}
 use native.Mathlib.Omega.{arith}
 use lib.ListN.{length}
-use borrow.Author.Tests.{eq-eqb}
-use Rattle.numbers.specs.Choose.{choose}
-use Rattle.parts.specs.declared.refusals.Refusal.{Refusal}
-use Rattle.parts.specs.declared.refusals.Refusal.the-variants.{Accepted}
+use borrow.Author.Tests.{eq-eqb, not-true}
+use Rattle.numbers.specs.declared.bytes.Write.{Write}
+use Rattle.numbers.proofs.Choices.{and-left, and-right}
 use Rattle.parts.specs.Refusals.{isAccepted}
 use Rattle.runs.specs.Runs.{begun, after}
 use Rattle.coprocessor.specs.declared.Coprocessor.{Coprocessor}
+use Rattle.coprocessor.specs.Writes.{writeAnswer}
 use Rattle.coprocessor.specs.Runs.{ranOf, runRefusal, runAnswer, runMemory}
 use Rattle.coprocessor.specs.Images.{saves, saveRefusal}
+use Rattle.coprocessor.proofs.SafeLaws.{run-allowed}
 use Rattle.theorems.specs.Held.{Held}
-use Rattle.theorems.specs.Cuts.{Event, Stand, standing, happened, lived, allowed}
+use Rattle.theorems.specs.Cuts.{Event, Stand, standing, happened, lived, spares, undisturbed, allowanceOf, allowed}
 use Rattle.theorems.proofs.HeldRuns.{held-run}
 use Rattle.theorems.proofs.ImageLaws.{load-save}
+use Rattle.theorems.proofs.Refused.{write-refused, run-refused, load-refused}
 use Rattle.theorems.proofs.RunValid.{with-pen-own, run-valid}
-use Rattle.theorems.proofs.RunCalls.{Continued, run-accepted, accepted-valid, run-run}
+use Rattle.theorems.proofs.RunCalls.{Continued, run-accepted, run-run}
 
--- two answers are accepted together where the first refusal of the two is none
-both-accepted : (t : Bool) (first second : Refusal) → isAccepted first ≡ t → t && isAccepted second ≡ isAccepted (choose t second first)
-both-accepted true first second e = refl
-both-accepted false first second e = sym e
+-- ---- a refused call
 
-module _ (c : Coprocessor) (memory : List ℕ) (held : Held c) (accepted : runRefusal c memory ≡ Accepted) where
+-- the drawing stands as it stood where the coprocessor and the count do
+stays : (s : Stand) (c : Coprocessor) (n : ℕ) → c ≡ s .coprocessor → n ≡ s .done
+    → record { coprocessor = c; memory = s .memory; done = n; accepted = s .accepted } ≡ s
+stays s c n same none = λ i. record { coprocessor = same i; memory = s .memory; done = none i; accepted = s .accepted }
+
+write-stays : (w : Write) (s : Stand) → spares (Event.write w) s ≡ true → happened (Event.write w) s ≡ s
+unfolding happened spares writeAnswer
+write-stays w s spared = stays s _ _ (write-refused w (s .coprocessor) (not-true _ spared)) refl
+
+lent-stays : (other : List ℕ) (n : ℕ) (s : Stand) → spares (Event.lent other n) s ≡ true → happened (Event.lent other n) s ≡ s
+unfolding happened spares
+lent-stays other n s spared =
+    let refused = run-refused (s .coprocessor) other n (not-true _ spared) in
+    let none = refused .1 in
+    stays s _ _ (refused .2) (let same : s .done + runAnswer (s .coprocessor) other n .done ≡ s .done = omega (arith, none) in same)
+
+load-stays : (bytes : List ℕ) (s : Stand) → spares (Event.load bytes) s ≡ true → happened (Event.load bytes) s ≡ s
+unfolding happened spares
+load-stays bytes s spared = stays s _ _ (load-refused (s .coprocessor) bytes (not-true _ spared)) refl
+
+-- ---- a life
+
+module _ (c : Coprocessor) (memory : List ℕ) (held : Held c) (accepted : isAccepted (runRefusal c memory) ≡ true) where
   -- where one run of n positions leaves the drawing
   abbrev ran : ℕ → Stand
-  ran n = happened (Event.run n) (standing c memory)
+  ran n = record { coprocessor = runAnswer c memory n .coprocessor; memory = runMemory c memory n; done = runAnswer c memory n .done; accepted = true }
 
   run-again : (n a : ℕ) → happened (Event.run a) (ran n) ≡ ran (n + a)
-  unfolding standing happened
+  unfolding happened
   run-again n a =
       let on : Continued c memory n a (runAnswer c memory n) (runMemory c memory n) = run-run c memory n a accepted in
-      let sum = on .done-sum in
-      let done : 0 + runAnswer c memory n .done + runAnswer (runAnswer c memory n .coprocessor) (runMemory c memory n) a .done ≡ 0 + runAnswer c memory (n + a) .done = omega (arith, sum) in
-      λ i.
-      record {
-        coprocessor = on .record-same i;
-        memory = on .memory-same i;
-        done = done i;
-        accepted = (both-accepted (isAccepted (runAnswer c memory n .refusal)) (runAnswer c memory n .refusal) (runAnswer (runAnswer c memory n .coprocessor) (runMemory c memory n) a .refusal) refl ∙ ap isAccepted (on .first-refusal)) i;
-      }
+      λ i. record { coprocessor = on .record-same i; memory = on .memory-same i; done = on .done-sum i; accepted = on .accepted i }
 
   moved-along : (n : ℕ) (other : Coprocessor) (buffer : List ℕ) (long : length buffer ≡ 115) → happened (Event.movedTo other buffer long) (ran n) ≡ ran n
-  unfolding standing happened saves saveRefusal
+  unfolding happened saves saveRefusal
   moved-along n other buffer long =
-      let valid = run-valid c memory n (accepted-valid c memory accepted) in
+      let valid = run-valid c memory n (run-allowed c memory accepted .1) in
       let same = load-save (runAnswer c memory n .coprocessor) other buffer (held-run c memory n held) valid long in
-      rw (eq-eqb (length buffer) 115 long, valid, same) (ap (λ t. record { coprocessor = runAnswer c memory n .coprocessor; memory = runMemory c memory n; done = 0 + runAnswer c memory n .done; accepted = t }) (and-true (isAccepted (runAnswer c memory n .refusal))))
+      rw (eq-eqb (length buffer) 115 long, valid, same) refl
 
   -- no position is none
   run-none : ran 0 ≡ standing c memory
-  unfolding standing happened ranOf after begun
-  run-none = rw (run-accepted c memory 0 accepted .0, run-accepted c memory 0 accepted .1, with-pen-own c) refl
+  unfolding standing ranOf after begun
+  run-none = rw (run-accepted c memory accepted 0 .0, run-accepted c memory accepted 0 .1, with-pen-own c) refl
 
-  lived-on : (events : List Event) (n : ℕ) → lived events (ran n) ≡ ran (n + allowed events)
-  unfolding lived allowed
-  lived-on [] n = ap ran (let same : n ≡ n + 0 = omega arith in same)
-  lived-on (Event.run a ∷ events) n =
-      ap (lived events) (run-again n a) ∙ lived-on events (n + a)
-      ∙ ap ran (let same : n + a + allowed events ≡ n + (a + allowed events) = omega arith in same)
-  lived-on (Event.movedTo other buffer long ∷ events) n = ap (lived events) (moved-along n other buffer long) ∙ lived-on events n
+  -- an event that leaves the drawing as it was allows nothing
+  unmoved : (n : ℕ) {s : Stand} → s ≡ ran n → s ≡ ran (n + 0)
+  unmoved n same = same ∙ ap ran (let none : n ≡ n + 0 = omega arith in none)
 
-  -- whatever happens to it, the drawing stands where one run of the summed allowances leaves it
-  pub cuts : (events : List Event) → lived events (standing c memory) ≡ lived (Event.run (allowed events) ∷ []) (standing c memory)
-  unfolding lived
-  cuts events = ap (lived events) (sym run-none) ∙ lived-on events 0 ∙ ap ran (let same : 0 + allowed events ≡ allowed events = omega arith in same)
+  happened-on : (e : Event) (n : ℕ) → spares e (ran n) ≡ true → happened e (ran n) ≡ ran (n + allowanceOf e)
+  unfolding happened allowanceOf
+  happened-on (Event.run a) n spared = run-again n a
+  happened-on (Event.movedTo other buffer long) n spared = unmoved n (moved-along n other buffer long)
+  happened-on (Event.read offset size) n spared = unmoved n refl
+  happened-on (Event.save buffer) n spared = unmoved n refl
+  happened-on (Event.write w) n spared = unmoved n (write-stays w (ran n) spared)
+  happened-on (Event.lent other a) n spared = unmoved n (lent-stays other a (ran n) spared)
+  happened-on (Event.load bytes) n spared = unmoved n (load-stays bytes (ran n) spared)
+
+  lived-on : (events : List Event) (n : ℕ) → undisturbed events (ran n) ≡ true → lived events (ran n) ≡ ran (n + allowed events)
+  unfolding lived allowed undisturbed
+  lived-on [] n h = unmoved n refl
+  lived-on (e ∷ events) n h =
+      let next : happened e (ran n) ≡ ran (n + allowanceOf e) = happened-on e n (and-left (spares e (ran n)) _ h) in
+      ap (lived events) next
+      ∙ lived-on events (n + allowanceOf e) (ap (undisturbed events) (sym next) ∙ and-right (spares e (ran n)) _ h)
+      ∙ ap ran (let same : n + allowanceOf e + allowed events ≡ n + (allowanceOf e + allowed events) = omega arith in same)
+
+  -- whatever happens to it undisturbed, the drawing stands where one run of the summed allowances leaves it
+  pub cuts : (events : List Event) → undisturbed events (standing c memory) ≡ true → lived events (standing c memory) ≡ ran (allowed events)
+  cuts events h =
+      ap (lived events) (sym run-none) ∙ lived-on events 0 (ap (undisturbed events) run-none ∙ h)
+      ∙ ap ran (let same : 0 + allowed events ≡ allowed events = omega arith in same)

@@ -5,7 +5,6 @@ use Rattle.numbers.proofs.Choices.{by-test}
 use Rattle.parts.specs.Refusals.{isAccepted}
 use Rattle.moves.specs.declared.Pen.{Pen}
 use Rattle.coprocessor.specs.declared.Coprocessor.{Coprocessor}
-use Rattle.coprocessor.specs.declared.Drawn.{Drawn}
 use Rattle.coprocessor.specs.Runs.{withPen, runRefusal, runAnswer}
 use Rattle.theorems.specs.Held.{Held}
 
@@ -29,4 +28,4 @@ held-pen c pen h =
 pub held-run : (c : Coprocessor) (memory : List ℕ) (n : ℕ) → Held c → Held (runAnswer c memory n .coprocessor)
 unfolding runAnswer
 held-run c memory n h =
-    by-test (λ (d : Drawn). Held (d .coprocessor)) (isAccepted (runRefusal c memory)) (λ accepted. held-pen c _ h) (λ refused. h)
+    by-test Held (isAccepted (runRefusal c memory)) (λ accepted. held-pen c _ h) (λ refused. h)

@@ -17,6 +17,8 @@ pub mod Bank
 pub mod HeldRuns
 pub mod CutLaws
 pub mod GoingOn
+pub mod NoneBeyond
 pub mod BoardLaws
+pub mod BoardGoingOn
 pub mod OneAnswer
 pub mod Lively

@@ -8,7 +8,7 @@ use native.Mathlib.Omega.{arith}
 use lib.ListN.{getD}
 use lib.IntN.{ℤ}
 use lib.Dec.{lit<, ltb}
-use borrow.Author.Tests.{leb-true, ltb-true, lt-ltb}
+use borrow.Author.Tests.{ltb-true, lt-ltb}
 use Rattle.numbers.specs.Circles.{circle}
 use Rattle.numbers.proofs.Choices.{by-test, and-left, and-right}
 use Rattle.pixels.specs.declared.Map.{Map}
@@ -22,20 +22,21 @@ use Rattle.parts.specs.Reduced.{mapReduced, termReduced, termsReduced, compareR
 use Rattle.parts.proofs.ReducedLaws.{term-circle-reduced, term-circle-fixed, destination-circle-reduced, destination-circle-fixed}
 use Rattle.rules.specs.Maps.{freshMap, mapAt, isInside}
 use Rattle.rules.specs.Going.{countersHold, pointersHold}
+use Rattle.rules.proofs.PointerLaws.{inside-x, inside-y}
 use Rattle.moves.specs.declared.Setup.{Setup}
 use Rattle.moves.specs.declared.Pen.{Pen}
 use Rattle.moves.specs.Decoded.{flowOf}
 use Rattle.moves.specs.Moves.{penWith, penStepped, rowPassed, moved}
 use Rattle.moves.proofs.Counters.{counters-moved}
 use Rattle.moves.proofs.Kept.{kept, pointersInside, pointers-moved, SpotOn, destination-moved, error-moved}
-use Rattle.runs.specs.Runs.{Run, begun, positioned, ended, after}
+use Rattle.runs.specs.Runs.{Run, begun, positioned, after}
 use Rattle.runs.proofs.AfterLaws.{after-idle}
 use Rattle.runs.proofs.RunLaws.{kept-after}
 use Rattle.coprocessor.specs.declared.Coprocessor.{Coprocessor}
-use Rattle.coprocessor.specs.declared.Drawn.{Drawn}
 use Rattle.coprocessor.specs.Fresh.{sizeHolds}
 use Rattle.coprocessor.specs.Valid.{startRefusalOf, mapsReduced, pointersReduced, reducedOf, goesOn, validOf}
 use Rattle.coprocessor.specs.Runs.{setupOf, penOf, withPen, ranOf, runRefusal, runAnswer}
+use Rattle.coprocessor.proofs.SafeLaws.{valid-going}
 
 -- ---- another pen
 
@@ -70,10 +71,10 @@ map-reduced maps field h = by (field % 4) (mod-lt field (lit< tt))
     by (suc (suc (suc (suc k)))) less = absurd (omega arith)
 
 inside-reduced : (map : Map) (p : Point) → mapReduced map ≡ true → isInside map p ≡ true → pointReduced p ≡ true
-unfolding mapReduced isInside pointReduced
+unfolding mapReduced pointReduced
 inside-reduced map p r h =
-    let across = leb-true (p .x) (map .width) (search (h, and-left)) in
-    let down = leb-true (p .y) (map .height) (search (h, and-right)) in
+    let across = inside-x map p h in
+    let down = inside-y map p h in
     let wide = ltb-true (map .width) 4096 (search (r, and-left, and-right)) in
     let high = ltb-true (map .height) 4096 (search (r, and-left, and-right)) in
     rw (lt-ltb (p .x) 4096 (omega arith), lt-ltb (p .y) 4096 (omega arith))
@@ -135,41 +136,14 @@ module _ (operations : ℕ) (s : Setup) (maps : mapReduced (s .source) ≡ true 
       }
 
   sound-after : (n : ℕ) (t : Run) → Sound operations s (t .pen) → Sound operations s (after s n t .pen)
-  unfolding ended positioned penWith countersHold
-  sound-after n t h =
-      kept-after s (λ u. Sound operations s (u .pen))
-      (λ u going far held.
-      record {
-        source = held .source;
-        pattern = held .pattern;
-        destination = held .destination;
-        error = held .error;
-        counters = refl;
-        pointers = held .pointers;
-      })
-      (λ u going within held. sound-moved (u .pen) held) n t h
+  unfolding positioned
+  sound-after n t h = kept-after s (λ u. Sound operations s (u .pen)) (λ u going held. sound-moved (u .pen) held) n t h
 
 -- ---- validity
-
--- what validity says of a drawing in hand
-record Going (c : Coprocessor) : Type 0 where
-  counters : countersHold (c .operations) (c .dimensions) (c .steps) (c .drawing) ≡ true
-  starts : isAccepted (startRefusalOf c) ≡ true
-  pointers : pointersHold (c .operations) (c .maps) (c .source) (c .pattern) ≡ true
-
-or-right : (a b : Bool) → (not a || b) ≡ true → a ≡ true → b ≡ true
-or-right true b h e = h
-or-right false b h e = absurd (false≢true e)
 
 either-true : (a b : Bool) → b ≡ true → (not a || b) ≡ true
 either-true true b h = h
 either-true false b h = refl
-
-valid-going : (c : Coprocessor) → validOf c ≡ true → unfinished (c .drawing) ≡ true → Going c
-unfolding validOf goesOn
-valid-going c v going =
-    let both = or-right (unfinished (c .drawing)) _ (and-right (sizeHolds (c .size) && reducedOf c) (goesOn c) v) going in
-    record { counters = search (both, and-left, and-right); starts = search (both, and-left, and-right); pointers = search (both, and-left, and-right) }
 
 idle-counters : (c : Coprocessor) (d : Drawing) → unfinished d ≡ false → countersHold (c .operations) (c .dimensions) (c .steps) d ≡ true
 unfolding countersHold
@@ -267,4 +241,4 @@ ran-valid c memory n v = by (unfinished (c .drawing)) refl
 pub run-valid : (c : Coprocessor) (memory : List ℕ) (n : ℕ) → validOf c ≡ true → validOf (runAnswer c memory n .coprocessor) ≡ true
 unfolding runAnswer
 run-valid c memory n v =
-    by-test (λ (d : Drawn). validOf (d .coprocessor) ≡ true) (isAccepted (runRefusal c memory)) (λ accepted. ran-valid c memory n v) (λ refused. v)
+    by-test (λ (d : Coprocessor). validOf d ≡ true) (isAccepted (runRefusal c memory)) (λ accepted. ran-valid c memory n v) (λ refused. v)

@@ -6,3 +6,5 @@ pub mod LoadsTo
 pub mod One
 pub mod Bank
 pub mod Lively
+pub mod Reach
+pub mod BoardCuts

@@ -1,6 +1,6 @@
 -- `xga_load` says whether the image loads: its number is that of the load's refusal.
 use Rattle.board.specs.Calls.{loadNumber}
-use Rattle.board.proofs.Opened.{opened-number}
+use Rattle.coprocessor.proofs.Opened.{opened-number}
 use borrow.Author.Needs.{needs}
 use Rattle.board.proofs.xga_load.Statement.{statement}
 use Rattle.board.proofs.xga_load.Tie as tie

@@ -8,7 +8,7 @@ use Rattle.coprocessor.specs.declared.Found.{Found}
 use Rattle.coprocessor.specs.Reads.{readAnswer}
 use Rattle.coprocessor.specs.Images.{loads, loaded}
 use Rattle.board.specs.Calls.{answerOf, readNumber}
-use Rattle.board.proofs.Opened.{opened-accepts, opened-record, opened-refused}
+use Rattle.coprocessor.proofs.Opened.{opened-accepts, opened-record, opened-refused}
 use borrow.Author.Needs.{needs}
 use Rattle.board.proofs.xga_read.Statement.{statement}
 use Rattle.board.proofs.xga_read.Tie as tie

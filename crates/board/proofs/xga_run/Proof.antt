@@ -8,7 +8,7 @@ use Rattle.coprocessor.specs.declared.Drawn.{Drawn}
 use Rattle.coprocessor.specs.Runs.{runAnswer, runMemory}
 use Rattle.coprocessor.specs.Images.{loads, loaded, saved}
 use Rattle.board.specs.Calls.{answerOf, runNumber, runImage, runBytes}
-use Rattle.board.proofs.Opened.{opened-accepts, opened-record, opened-refused}
+use Rattle.coprocessor.proofs.Opened.{opened-accepts, opened-record, opened-refused}
 use borrow.Author.Needs.{needs}
 use Rattle.board.proofs.xga_run.Statement.{statement}
 use Rattle.board.proofs.xga_run.Tie as tie

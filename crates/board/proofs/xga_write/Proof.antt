@@ -6,7 +6,7 @@ use Rattle.coprocessor.specs.declared.Written.{Written}
 use Rattle.coprocessor.specs.Writes.{writeAnswer}
 use Rattle.coprocessor.specs.Images.{loads, loaded, saved}
 use Rattle.board.specs.Calls.{writeNumber, writeImage}
-use Rattle.board.proofs.Opened.{opened-accepts, opened-record}
+use Rattle.coprocessor.proofs.Opened.{opened-accepts, opened-record}
 use borrow.Author.Needs.{needs}
 use Rattle.board.proofs.xga_write.Statement.{statement}
 use Rattle.board.proofs.xga_write.Tie as tie

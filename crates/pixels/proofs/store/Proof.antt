@@ -1,6 +1,4 @@
--- `store` sets the one byte, with another field, and none beyond the memory.
-use mathlib.Core.Path.{sym}
-use lib.Seq.{set-out}
+-- `store` sets the one byte, with another field.
 use borrow.Author.Needs.{needs}
 use Rattle.pixels.proofs.store.Statement.{statement}
 use Rattle.pixels.proofs.store.Tie as tie
@@ -17,9 +15,6 @@ same-length c = search needs
 returns : tie.Need-returns
 returns c = rw (c .replaced .ensures)
 
-returns-2 : tie.Need-returns-2
-returns-2 c = sym (set-out _ _ _ (c .if1 .left))
-
 pub store-spec : {M : Type 1} → statement M
 store-spec =
-    tie.close (tie.spec replaced-requires slice-write-memory same-length returns returns-2)
+    tie.close (tie.spec replaced-requires slice-write-memory same-length returns)

@@ -20,13 +20,13 @@ enum-known-way : tie.Need-enum-known-way
 enum-known-way c = search needs
 
 step-pen-requires : tie.Need-step-pen-requires
-step-pen-requires c κs = search needs
+step-pen-requires c κs = c .before .before .before .before .pre
 
 enum-known-way-2 : tie.Need-enum-known-way-2
 enum-known-way-2 c = search needs
 
 pass-row-requires : tie.Need-pass-row-requires
-pass-row-requires c κs = search needs
+pass-row-requires c κs = c .before .before .before .before .pre
 
 enum-known-way-3 : tie.Need-enum-known-way-3
 enum-known-way-3 c = search needs

@@ -4,6 +4,7 @@ use mir.Syntax.{w16, w32}
 use mir.ValLaws.{toZ-ofZ}
 use Rattle.moves.specs.Moves.{rowPoint, rowSpot, rowPassed}
 use Rattle.moves.proofs.Choices.{choose-point}
+use Rattle.rules.proofs.PointerLaws.{inside-x, inside-y}
 use borrow.Author.Needs.{needs}
 use Rattle.moves.proofs.pens.pass_row.Statement.{statement}
 use Rattle.moves.proofs.pens.pass_row.Tie as tie
@@ -19,16 +20,16 @@ error : (c : tie.After-struct-told) → SFits w32 (c .before .before .before .be
 error c = search (needs, c .struct-told .given)
 
 return-used-requires : tie.Need-return-used-requires
-return-used-requires c κs = search needs
+return-used-requires c κs = λ used. inside-x _ _ (c .before .before .pre .source used)
 
 turn-used-requires : tie.Need-turn-used-requires
-turn-used-requires c κs = search needs
+turn-used-requires c κs = λ used. inside-y _ _ (c .before .before .before .pre .source used)
 
 return-used-requires-2 : tie.Need-return-used-requires-2
-return-used-requires-2 c κs = search needs
+return-used-requires-2 c κs = λ used. inside-x _ _ (c .before .before .before .before .pre .pattern used)
 
 turn-used-requires-2 : tie.Need-turn-used-requires-2
-turn-used-requires-2 c κs = search needs
+turn-used-requires-2 c κs = λ used. inside-y _ _ (c .before .before .before .before .before .pre .pattern used)
 
 return-by-requires : tie.Need-return-by-requires
 return-by-requires c κs = search needs

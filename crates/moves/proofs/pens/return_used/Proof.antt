@@ -7,7 +7,7 @@ opposite-requires : tie.Need-opposite-requires
 opposite-requires c κs = search needs
 
 turn-by-requires : tie.Need-turn-by-requires
-turn-by-requires c κs = search needs
+turn-by-requires c κs = c .before .before .before .pre (c .before .if1 .taken)
 
 returns : tie.Need-returns
 returns c = rw (c .before .before .if1 .taken, c .turn-by .ensures, c .before .opposite .ensures)

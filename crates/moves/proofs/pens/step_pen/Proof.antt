@@ -6,6 +6,7 @@ use mir.ValLaws.{toZ-ofZ}
 use Rattle.moves.specs.Turns.{pointStepped, spotStepped}
 use Rattle.moves.specs.Moves.{penStepped}
 use Rattle.moves.proofs.Choices.{choose-point}
+use Rattle.rules.proofs.PointerLaws.{inside-x, inside-y}
 use borrow.Author.Needs.{needs}
 use Rattle.moves.proofs.pens.step_pen.Statement.{statement}
 use Rattle.moves.proofs.pens.step_pen.Tie as tie
@@ -18,16 +19,16 @@ down : (c : tie.After-struct-told) → SFits w16 (c .before .before .before .bef
 down c = search (needs, c .struct-told .given)
 
 turn-used-requires : tie.Need-turn-used-requires
-turn-used-requires c κs = search needs
+turn-used-requires c κs = λ used. inside-x _ _ (c .before .pre .source used)
 
 turn-used-requires-2 : tie.Need-turn-used-requires-2
-turn-used-requires-2 c κs = search needs
+turn-used-requires-2 c κs = λ used. inside-y _ _ (c .before .before .pre .source used)
 
 turn-used-requires-3 : tie.Need-turn-used-requires-3
-turn-used-requires-3 c κs = search needs
+turn-used-requires-3 c κs = λ used. inside-x _ _ (c .before .before .before .pre .pattern used)
 
 turn-used-requires-4 : tie.Need-turn-used-requires-4
-turn-used-requires-4 c κs = search needs
+turn-used-requires-4 c κs = λ used. inside-y _ _ (c .before .before .before .before .pre .pattern used)
 
 circle-by-requires : tie.Need-circle-by-requires
 circle-by-requires c κs = search needs

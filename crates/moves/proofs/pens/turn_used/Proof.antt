@@ -1,10 +1,9 @@
 -- `turn_used` is the definition's choice, by the flag.
-use borrow.Author.Needs.{needs}
 use Rattle.moves.proofs.pens.turn_used.Statement.{statement}
 use Rattle.moves.proofs.pens.turn_used.Tie as tie
 
 turn-once-requires : tie.Need-turn-once-requires
-turn-once-requires c κs = search needs
+turn-once-requires c κs = c .before .pre (c .if1 .taken)
 
 returns : tie.Need-returns
 returns c = rw (c .before .if1 .taken, c .turn-once .ensures)

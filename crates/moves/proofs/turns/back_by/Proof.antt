@@ -7,7 +7,7 @@ use Rattle.moves.proofs.turns.back_by.Statement.{statement}
 use Rattle.moves.proofs.turns.back_by.Tie as tie
 
 returns : tie.Need-returns
-returns c = sym (back-inside _ _ _ (c .if2 .taken) (omega arith))
+returns c = sym (back-inside _ _ _ (c .if1 .taken) (omega arith))
 
 steps-back-requires : tie.Need-steps-back-requires
 steps-back-requires c κs = search needs

@@ -6,6 +6,9 @@ use Rattle.numbers.proofs.CircleLaws.{forth-inside}
 use Rattle.moves.proofs.turns.forth_by.Statement.{statement}
 use Rattle.moves.proofs.turns.forth_by.Tie as tie
 
+sub-if1 : tie.Need-sub-if1
+sub-if1 c = search needs
+
 add-result : tie.Need-add-result
 add-result c = search needs
 
@@ -19,4 +22,4 @@ returns-2 : tie.Need-returns-2
 returns-2 c = search needs
 
 pub forth-by-spec : {M : Type 1} → statement M
-forth-by-spec = tie.close (tie.spec add-result returns steps-forth-requires returns-2)
+forth-by-spec = tie.close (tie.spec sub-if1 add-result returns steps-forth-requires returns-2)

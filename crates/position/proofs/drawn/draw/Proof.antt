@@ -3,15 +3,18 @@ use mathlib.Core.Path.{_∙_, sym}
 use borrow.Author.Tests.{not-true, not-false}
 use Rattle.numbers.proofs.Choices.{choose-true, choose-false}
 use Rattle.position.proofs.Writing.{drawn-in}
+use Rattle.position.proofs.Safety.{left-in}
 use borrow.Author.Needs.{needs}
 use Rattle.position.proofs.drawn.draw.Statement.{statement}
 use Rattle.position.proofs.drawn.draw.Tie as tie
 
 is-left-out-requires : tie.Need-is-left-out-requires
-is-left-out-requires c κs = search needs
+is-left-out-requires c κs = c .before .before .pre
 
 write-requires : tie.Need-write-requires
-write-requires c κs = search needs
+write-requires c κs =
+    let inside = left-in _ _ _ (sym (c .before .before .is-left-out .ensures) ∙ not-true _ (c .before .if1 .taken)) in
+    (c .before .before .before .before .before .pre, inside .0, inside .1)
 
 same-length : tie.Need-same-length
 same-length c = search needs

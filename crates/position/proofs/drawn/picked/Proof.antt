@@ -7,14 +7,11 @@ use Rattle.position.proofs.drawn.picked.Tie as tie
 takes-source-requires : tie.Need-takes-source-requires
 takes-source-requires c κs = search needs
 
-source-pixel-requires : tie.Need-source-pixel-requires
-source-pixel-requires c κs = search needs
-
 returns : tie.Need-returns
-returns c = rw (sym (c .before .before .takes-source .ensures) ∙ c .before .if1 .taken) (c .source-pixel .ensures)
+returns c = rw (sym (c .before .takes-source .ensures) ∙ c .if1 .taken)
 
 returns-2 : tie.Need-returns-2
 returns-2 c = rw (sym (c .before .takes-source .ensures) ∙ c .if1 .left)
 
 pub picked-spec : {M : Type 1} → statement M
-picked-spec = tie.close (tie.spec takes-source-requires source-pixel-requires returns returns-2)
+picked-spec = tie.close (tie.spec takes-source-requires returns returns-2)

@@ -1,15 +1,25 @@
--- `source_pixel` is the pixel at the source pointer.
+-- `source_pixel` is the pixel at the source pointer, which lies in the memory where its map is used.
+use mathlib.Core.Path.{sym, _∙_}
 use borrow.Author.Needs.{needs}
+use Rattle.numbers.proofs.Choices.{choose-true, choose-false}
 use Rattle.position.specs.Drawn.{sourcePixel}
+use Rattle.position.specs.Inner.{sourceRead}
 use Rattle.position.proofs.drawn.source_pixel.Statement.{statement}
 use Rattle.position.proofs.drawn.source_pixel.Tie as tie
 
+uses-source-requires : tie.Need-uses-source-requires
+uses-source-requires c κs = search needs
+
 get-requires : tie.Need-get-requires
-get-requires c κs = search needs
+get-requires c κs = c .before .before .before .before .pre .source (sym (c .before .uses-source .ensures) ∙ c .if1 .taken)
 
 returns : tie.Need-returns
-unfolding sourcePixel
-returns c = c .get .ensures
+unfolding sourcePixel sourceRead
+returns c = c .get .ensures ∙ sym (choose-true _ 0 (sym (c .before .before .uses-source .ensures) ∙ c .before .if1 .taken))
+
+returns-2 : tie.Need-returns-2
+unfolding sourceRead
+returns-2 c = sym (choose-false _ 0 (sym (c .before .uses-source .ensures) ∙ c .if1 .left))
 
 pub source-pixel-spec : {M : Type 1} → statement M
-source-pixel-spec = tie.close (tie.spec get-requires returns)
+source-pixel-spec = tie.close (tie.spec uses-source-requires get-requires returns returns-2)

@@ -1,16 +1,26 @@
 -- `write` leaves what is written: the pixel that is found is the destination's, for the condition, for the mix and for the byte that is set.
 use mathlib.Core.Path.{_≡_, _∙_, sym}
+use Prim.Native.Nat.{_<_}
+use lib.ListN.{length}
 use borrow.Author.Tests.{not-true, not-false}
 use Rattle.numbers.proofs.Choices.{choose-true, choose-false}
+use Rattle.pixels.specs.Maps.{placeOf}
 use Rattle.pixels.specs.Pixels.{pixelAt, withPixel}
 use Rattle.pixels.specs.Inner.{foundAt}
-use Rattle.pixels.proofs.Pixels.{found-in-byte}
+use Rattle.pixels.proofs.Pixels.{found-in-byte, found-in-memory}
 use Rattle.position.specs.Fates.{destinationPixel, isCompared}
 use Rattle.position.specs.Drawn.{mixedPixel}
 use Rattle.position.specs.Inner.{writtenOf}
 use borrow.Author.Needs.{needs}
 use Rattle.position.proofs.drawn.write.Statement.{statement}
 use Rattle.position.proofs.drawn.write.Tie as tie
+
+-- the destination pixel lies in the memory, as the position is inside its map and the mask boundary
+there : (c : tie.After-destination-of) → let a = c .before .before .args in
+    placeOf (a .setup .destination) (c .destination-of .result .x) (c .destination-of .result .y) < length (a .memory .now)
+there c =
+    let pre = c .before .before .pre in
+    rw (c .destination-of .ensures .0, c .destination-of .ensures .1) (pre .0 .destination (pre .1) (pre .2))
 
 -- the pixel that is found is the destination's
 known : (c : tie.After-value) → let a = c .before .before .before .before .before .args in
@@ -34,7 +44,7 @@ destination-of-requires : tie.Need-destination-of-requires
 destination-of-requires c κs = search needs
 
 find-requires : tie.Need-find-requires
-find-requires c κs = search needs
+find-requires c κs = there (c .before)
 
 value-requires : tie.Need-value-requires
 value-requires c κs = rw (c .find .ensures) (found-in-byte _ _ _ _)
@@ -43,10 +53,12 @@ is-compared-requires : tie.Need-is-compared-requires
 is-compared-requires c κs = search needs
 
 mixed-pixel-requires : tie.Need-mixed-pixel-requires
-mixed-pixel-requires c κs = search needs
+mixed-pixel-requires c κs = c .before .before .before .before .before .before .before .before .pre .0
 
 store-requires : tie.Need-store-requires
-store-requires c κs = rw (c .before .before .before .before .before .before .find .ensures) (found-in-byte _ _ _ _)
+store-requires c κs =
+    rw (c .before .before .before .before .before .before .find .ensures)
+    (found-in-byte _ _ _ _, found-in-memory _ _ _ _ (there (c .before .before .before .before .before .before .before .before)))
 
 same-length : tie.Need-same-length
 same-length c = search needs

@@ -4,6 +4,7 @@ use mathlib.Core.Bool.{false, not}
 use Rattle.position.specs.Places.{onMap, isMove, isNulled}
 use Rattle.position.specs.Inner.{isLeftOut}
 use borrow.Author.Needs.{needs}
+use borrow.Author.Tests.{not-false}
 use Rattle.position.proofs.fates.is_left_out.Statement.{statement}
 use Rattle.position.proofs.fates.is_left_out.Tie as tie
 
@@ -52,7 +53,11 @@ unfolding isLeftOut
 returns-4 c = simp (drawn (c .before .before .before .before .before .before), kept (c .before .before .before .before), on (c .before .before), ap not (sym (c .before .in-mask .ensures)) ∙ c .if4 .taken)
 
 is-on-zero-requires : tie.Need-is-on-zero-requires
-is-on-zero-requires c κs = search needs
+is-on-zero-requires c κs = (
+  c .before .before .before .before .before .before .before .before .before .pre,
+  not-false _ (on (c .before .before)),
+  not-false _ (ap not (sym (c .before .in-mask .ensures)) ∙ c .if4 .left),
+)
 
 returns-5 : tie.Need-returns-5
 unfolding isLeftOut

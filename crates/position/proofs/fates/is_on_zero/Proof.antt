@@ -13,7 +13,9 @@ mask-of-requires : tie.Need-mask-of-requires
 mask-of-requires c κs = search needs
 
 get-requires : tie.Need-get-requires
-get-requires c κs = search needs
+get-requires c κs =
+    let pre = c .before .before .before .before .pre in
+    rw (c .mask-of .ensures .0, c .mask-of .ensures .1) (pre .0 .mask (pre .1) (pre .2) (c .before .if1 .left))
 
 returns-2 : tie.Need-returns-2
 unfolding onZero

@@ -1,8 +1,9 @@
--- `is_within` tells whether the place is from 0 to the last: where it is not below 0 it is compared as it stands.
+-- `is_within` tells whether the place is from 0 to the last: the two tests, on the place in 32 bits, are the definition's cases.
 use native.Mathlib.Omega.{arith}
+use mir.Syntax.{w32}
+use mir.ValLaws.{toZ-pos}
 use borrow.Author.Needs.{needs}
-use Rattle.position.specs.Places.{isWithin}
-use Rattle.position.proofs.Columns.{answered, below, natural-from, column-fits}
+use Rattle.position.proofs.Columns.{within-tests, answered}
 use Rattle.position.proofs.places.is_within.Statement.{statement}
 use Rattle.position.proofs.places.is_within.Tie as tie
 
@@ -10,22 +11,13 @@ place-from-requires : tie.Need-place-from-requires
 place-from-requires c κs = search needs
 
 cast-result : tie.Need-cast-result
-cast-result c =
-    let s = c .before .before .fits in
-    let place = c .before .place-from .ensures in
-    let up = natural-from (s .z) (s .origin) place (c .if1 .left) in
-    rw (answered (s .z) (s .origin) place, up) (tt, omega (arith, column-fits (s .z) (s .origin) up))
+cast-result c = search needs
 
 returns : tie.Need-returns
-unfolding isWithin
-returns c = let s = c .before .before .fits in rw (below (s .z) (s .origin) (c .before .place-from .ensures) (c .if1 .taken))
-
-returns-2 : tie.Need-returns-2
-unfolding isWithin
-returns-2 c =
-    let s = c .before .before .fits in
-    let place = c .before .place-from .ensures in
-    rw (answered (s .z) (s .origin) place, natural-from (s .z) (s .origin) place (c .if1 .left))
+returns c =
+    let s = c .before .fits in
+    let last = c .before .args .last in
+    rw (answered (s .z) (s .origin) (c .place-from .ensures), toZ-pos w32 last (omega (arith, s .last .fits))) (within-tests last _)
 
 pub is-within-spec : {M : Type 1} → statement M
-is-within-spec = tie.close (tie.spec place-from-requires cast-result returns returns-2)
+is-within-spec = tie.close (tie.spec place-from-requires cast-result returns)
