@@ -2,8 +2,8 @@
 
    An image is XGA_IMAGE_BYTES bytes, and the memory as many bytes as the state was made for. Each is passed as a
    pointer, which is not NULL, and its length; the two lie apart. No call keeps a pointer or allocates.
-   A call answers 0 or the number of its refusal (docs/manual/refusals.md). A refused call changes nothing, but for xga_fresh
-   with a size outside the limit. Where an image has another length or does not load, there is no state of
+   A call answers 0 or the number of its refusal (docs/manual/refusals.md). A refused call on a state changes
+   nothing; xga_fresh makes a state whatever it answers. Where an image has another length or does not load, there is no state of
    which anything else could be asked, and it is refused with 10; otherwise the lowest number that applies is given. */
 #ifndef XGA_H
 #define XGA_H

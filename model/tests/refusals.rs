@@ -1,4 +1,4 @@
-//! Refusals 1 to 10, which are all there are (01, Numbers a call answers with); damaged records are in damaged_records.rs.
+//! Refusals 1 to 10, all that are left (docs/DECISIONS.md, 6); damaged records are in damaged_records.rs.
 //!
 //! The rules of start, load and 10 keep every pixel of a position inside the memory, so no number is needed for one beyond it;
 //! that such a position fails loudly is tested beside the code, in src/reach.rs.

@@ -1,12 +1,12 @@
 -- A valid record with a drawing in hand is safe: the start rules hold of it, so every used map ends within the memory, and its used pointers lie in their maps.
 use mathlib.Core.Path.{_≡_, refl}
-use mathlib.Core.Bool.{Bool, true, false, not, _&&_, _||_, false≢true}
+use mathlib.Core.Bool.{true, not, _&&_}
 use mathlib.Core.List.{List}
 use Prim.Native.Nat.{ℕ}
 use lib.ListN.{length}
 use lib.Dec.{eqb}
 use borrow.Author.Tests.{eqb-true, eq-eqb, not-false}
-use Rattle.numbers.proofs.Choices.{and-left, and-right}
+use Rattle.numbers.proofs.Choices.{asked, and-left, and-right}
 use Rattle.parts.specs.Drawings.{unfinished}
 use Rattle.parts.specs.Refusals.{isAccepted}
 use Rattle.parts.proofs.RefusalLaws.{passed}
@@ -15,17 +15,12 @@ use Rattle.rules.specs.Rules.{usedMaps, endsHold}
 use Rattle.rules.specs.Going.{countersHold, pointersHold}
 use Rattle.rules.proofs.RefusalLaws.{accepted-holds}
 use Rattle.moves.specs.Decoded.{flowOf}
-use Rattle.position.specs.Within.{sourceUsed}
+use Rattle.position.specs.Within.{readsSource}
 use Rattle.position.specs.Inner.{Safe}
 use Rattle.coprocessor.specs.declared.Coprocessor.{Coprocessor}
 use Rattle.coprocessor.specs.Fresh.{sizeHolds}
 use Rattle.coprocessor.specs.Valid.{startRefusalOf, reducedOf, goesOn, validOf}
 use Rattle.coprocessor.specs.Runs.{setupOf, penOf, runRefusal}
-
--- what is asked only where a test holds
-pub asked : (a b : Bool) → (not a || b) ≡ true → a ≡ true → b ≡ true
-asked true b h e = h
-asked false b h e = absurd (false≢true e)
 
 -- what validity says of a drawing in hand
 pub record Going (c : Coprocessor) : Type 0 where
@@ -40,22 +35,17 @@ valid-going c v going =
     record { counters = search (both, and-left, and-right); starts = search (both, and-left, and-right); pointers = search (both, and-left, and-right) }
 
 pub valid-safe : (c : Coprocessor) → validOf c ≡ true → unfinished (c .drawing) ≡ true → Safe (setupOf c) (c .size) (penOf c)
-unfolding startRefusalOf endsHold usedMaps usesMask usesSource sourceIsColour pointersHold setupOf penOf flowOf sourceUsed
+unfolding startRefusalOf endsHold usedMaps usesMask usesSource sourceIsColour pointersHold setupOf penOf flowOf readsSource
 valid-safe c v going =
     let g = valid-going c v going in
     let ends = accepted-holds _ _ _ _ _ (g .starts) .ends in
-    let pointers = g .pointers in
     record {
       destination = search (ends, and-left);
       mask = λ used. asked (usesMask (c .operations)) _ (search (ends, and-right)) (eq-eqb _ 2 used);
       source = λ used. asked (usesSource (c .operations)) _ (search (ends, and-left, and-right)) used;
       pattern = λ used. asked (usesPattern (c .operations)) _ (search (ends, and-left, and-right)) used;
       used = λ read. read;
-      pointed =
-          record {
-            source = λ used. asked (usesSource (c .operations)) _ (search (pointers, and-left)) used;
-            pattern = λ used. asked (usesPattern (c .operations)) _ (search (pointers, and-right)) used;
-          };
+      pointers = g .pointers;
     }
 
 -- an accepted run is of a valid record, over a memory of its size

@@ -125,7 +125,8 @@ impl Coprocessor {
         Refusal::Accepted
     }
 
-    // Does the next positions of the drawing in hand, at most as many as the allowance; a refused run does none.
+    // Does the next positions of the drawing in hand, at most as many as the allowance; a refused run does none and changes
+    // nothing.
     pub fn run(self, memory: &mut [u8], allowance: u32) -> Drawn
         ensures { λ r. ⌜ (r ≡ runAnswer self (now (memory .entry)) allowance) × (now (memory .exit) ≡ runMemory self (now (memory .entry)) allowance) ⌝ }
     {

@@ -6,8 +6,8 @@ use crate::logical::all_ones;
 // The condition that is true of nothing.
 const NEVER: u8 = 4;
 
-// Whether a condition is true of the destination, over the bits that the plane mask enables; these stay in their order, so
-// the masked pixels compare as the gathered bits do. Conditions past 7 are true of nothing.
+// Whether a condition is true of the destination: the enabled bits stay in their order, so the masked pixels compare as the
+// gathered bits do.
 fn compares(bits: u32, condition: u8, planes: u32, destination: u32, value: u32) -> bool
     requires { ⌜ bits ≤ 8 ⌝ }
     ensures { λ r. ⌜ r ≡ conditionHolds bits condition planes destination value ⌝ }
@@ -28,7 +28,8 @@ fn compares(bits: u32, condition: u8, planes: u32, destination: u32, value: u32)
     }
 }
 
-// The same. Most drawings have the condition that never holds, so that is asked first.
+// Whether the compare condition is true of the destination, over the bits that the plane mask enables; one past 7 is true of
+// nothing. Most drawings have the condition that never holds, so that is asked first.
 pub fn holds(bits: u32, condition: u8, planes: u32, destination: u32, value: u32) -> bool
     requires { ⌜ bits ≤ 8 ⌝ }
     ensures { λ r. ⌜ r ≡ conditionHolds bits condition planes destination value ⌝ }

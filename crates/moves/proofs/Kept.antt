@@ -1,6 +1,6 @@
 -- What every move keeps: what a step, a row's end and a passage keep, each move keeps; so used pointers stay inside their maps, the destination on its circle, and E on its own.
 use mathlib.Core.Path.{_≡_, refl}
-use mathlib.Core.Bool.{Bool, true, false, not, _&&_, _||_}
+use mathlib.Core.Bool.{Bool, true, false, not, _||_}
 use mathlib.Core.Logic.{_⊎_, ⊎-elim, inl, inr}
 use Prim.Native.Nat.{ℕ, _%_}
 use lib.Dec.{lit<}
@@ -10,7 +10,7 @@ use borrow.Author.Tests.{le-leb}
 use Rattle.numbers.specs.Choose.{choose}
 use Rattle.numbers.specs.Circles.{circle}
 use Rattle.numbers.proofs.CircleLaws.{circle-circle}
-use Rattle.numbers.proofs.Choices.{by-test, by-lt, and-left, and-right, and-both}
+use Rattle.numbers.proofs.Choices.{by-test, by-lt, asked, and-left, and-right, and-both}
 use Rattle.pixels.specs.declared.Map.{Map}
 use Rattle.parts.specs.declared.shapes.Point.{Point}
 use Rattle.parts.specs.declared.shapes.Spot.{Spot}
@@ -25,7 +25,7 @@ use Rattle.moves.specs.declared.Setup.{Setup}
 use Rattle.moves.specs.declared.Pen.{Pen}
 use Rattle.moves.specs.Turns.{turnedBy, pointStepped, spotStepped}
 use Rattle.moves.specs.Moves.{penStepped, penWith, penGone, lineError, lineMoved, codesMoved, columnPassed, rowPoint, rowSpot, rowPassed, blockMoved, movedBy, moved}
-use Rattle.moves.specs.Inner.{Pointed}
+use Rattle.moves.specs.Inner.{pointersInside}
 use Rattle.moves.proofs.TurnLaws.{turned-in}
 use Rattle.moves.proofs.CircledLaws.{OnCircle, circled-on}
 
@@ -80,14 +80,12 @@ pattern-inside s =
     (λ d pen. used-inside (s .flow .pattern) (s .pattern) _ _ _ _ (pen .pattern))
     (λ d pen h. h)
 
-pub pointed-moved : (s : Setup) (pen : Pen) → Pointed s pen → Pointed s (moved s pen)
-pointed-moved s pen h = record { source = λ used. source-inside s pen (h .source used); pattern = λ used. pattern-inside s pen (h .pattern used) }
+-- what that says of a used pointer
+pub source-in : (s : Setup) (pen : Pen) → pointersInside s pen ≡ true → s .flow .source ≡ true → isInside (s .source) (pen .source) ≡ true
+source-in s pen h = asked (s .flow .source) _ (search (h, and-left))
 
--- 01, State image: used source and pattern pointers lie in their maps
-abbrev pub pointersInside : Setup → Pen → Bool
-pointersInside s pen =
-    (not (s .flow .source) || isInside (s .source) (pen .source))
-    && (not (s .flow .pattern) || isInside (s .pattern) (pen .pattern))
+pub pattern-in : (s : Setup) (pen : Pen) → pointersInside s pen ≡ true → s .flow .pattern ≡ true → isInside (s .pattern) (pen .pattern) ≡ true
+pattern-in s pen h = asked (s .flow .pattern) _ (search (h, and-right))
 
 where-used : (used : Bool) (map : Map) (p q : Point) → (isInside map p ≡ true → isInside map q ≡ true)
     → (not used || isInside map p) ≡ true → (not used || isInside map q) ≡ true

@@ -1,6 +1,5 @@
 -- How the code asks it: what functions inside promise and ask of each other, proved from the rules; nothing here has to be believed.
-use mathlib.Core.Path.{_≡_}
-use mathlib.Core.Bool.{true}
+use mathlib.Core.Bool.{Bool, not, _&&_, _||_}
 use Rattle.rules.specs.Maps.{isInside}
 use Rattle.moves.specs.declared.Way.{Way}
 use Rattle.moves.specs.declared.Way.the-variants.{Along, Row, Here}
@@ -16,6 +15,7 @@ gone s (Row drawing) pen = rowPassed s drawing pen
 gone s (Here drawing) pen = penWith drawing pen
 
 -- used source and pattern pointers lie in their maps
-pub record Pointed (s : Setup) (pen : Pen) : Type 0 where
-  pub source : s .flow .source ≡ true → isInside (s .source) (pen .source) ≡ true
-  pub pattern : s .flow .pattern ≡ true → isInside (s .pattern) (pen .pattern) ≡ true
+abbrev pub pointersInside : Setup → Pen → Bool
+pointersInside s pen =
+    (not (s .flow .source) || isInside (s .source) (pen .source))
+    && (not (s .flow .pattern) || isInside (s .pattern) (pen .pattern))

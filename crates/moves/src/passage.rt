@@ -1,6 +1,7 @@
 ghost use mathlib.Core.Path.{_≡_};
+ghost use mathlib.Core.Bool.{true};
 ghost use Rattle.moves.specs.Moves.{moved};
-ghost use Rattle.moves.specs.Inner.{Pointed};
+ghost use Rattle.moves.specs.Inner.{pointersInside};
 use crate::Pen;
 use crate::Setup;
 use crate::Way;
@@ -12,7 +13,7 @@ use crate::ways::way_of;
 // The pen after this position, whose used pointers lie in their maps; with nothing in hand it stays. The ways of all drawings meet here, so that a loop over
 // positions has one step in it and copies no set-up to take it.
 pub fn next(setup: Setup, pen: Pen) -> Pen
-    requires { ⌜ Pointed setup pen ⌝ }
+    requires { ⌜ pointersInside setup pen ≡ true ⌝ }
     ensures { λ r. ⌜ r ≡ moved setup pen ⌝ }
 {
     let way = way_of(setup, pen);

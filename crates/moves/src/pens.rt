@@ -4,7 +4,7 @@ ghost use Prim.Native.Nat.{_≤_};
 ghost use Rattle.numbers.specs.Choose.{choose};
 ghost use Rattle.moves.specs.Turns as turned;
 ghost use Rattle.moves.specs.Moves as defined;
-ghost use Rattle.moves.specs.Inner.{Pointed};
+ghost use Rattle.moves.specs.Inner.{pointersInside};
 use crate::Course;
 use crate::Pen;
 use crate::Setup;
@@ -37,7 +37,7 @@ pub(crate) fn step_pen(
     drawing: Drawing,
     pen: Pen,
 ) -> Pen
-    requires { ⌜ Pointed setup pen ⌝ }
+    requires { ⌜ pointersInside setup pen ≡ true ⌝ }
     ensures { λ r.
         ⌜ r ≡ defined.penStepped setup (record { x = «from_x»; y = «from_y» }) (record { x = «to_x»; y = «to_y» }) e drawing pen ⌝ }
 {
@@ -122,7 +122,7 @@ fn return_by(setup: Setup, x: i16) -> i16
 
 // The pen after a row.
 pub(crate) fn pass_row(setup: Setup, drawing: Drawing, pen: Pen) -> Pen
-    requires { ⌜ Pointed setup pen ⌝ }
+    requires { ⌜ pointersInside setup pen ≡ true ⌝ }
     ensures { λ r. ⌜ r ≡ defined.rowPassed setup drawing pen ⌝ }
 {
     let flow = setup.flow;

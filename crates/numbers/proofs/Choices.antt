@@ -1,6 +1,6 @@
 -- What both sides of a choice have, the choice has; and a test of two parts holds where both do: by the cases of the test.
 use mathlib.Core.Path.{_≡_, refl}
-use mathlib.Core.Bool.{Bool, true, false, _&&_}
+use mathlib.Core.Bool.{Bool, true, false, not, _&&_, _||_, false≢true}
 use Prim.Native.Nat.{ℕ, _≤_, _<_}
 use lib.Dec.{ltb, eqb}
 use borrow.Author.Tests.{ltb-true, ltb-false, eqb-true, eqb-false}
@@ -43,6 +43,11 @@ pub and-right : (a b : Bool) → (a && b) ≡ true → b ≡ true
 and-right true b e = e
 and-right false true e = refl
 and-right false false e = e
+
+-- what is asked only where a test holds
+pub asked : (a b : Bool) → (not a || b) ≡ true → a ≡ true → b ≡ true
+asked true b h e = h
+asked false b h e = absurd (false≢true e)
 
 pub and-both : (a b : Bool) → a ≡ true → b ≡ true → (a && b) ≡ true
 and-both true b p q = q

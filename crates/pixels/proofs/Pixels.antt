@@ -1,10 +1,10 @@
 -- A pixel is what was put there and no other pixel or byte sees that: it is a field of one byte, and that byte alone is set.
 use mathlib.Core.Path.{_≡_, refl}
-use mathlib.Core.List.{List}
+use mathlib.Core.List.{List, _++_}
 use mathlib.Core.Logic.{⊎-elim}
 use Prim.Native.Nat.{ℕ, _+_, _%_, _^_, _≤_, _<_}
-use lib.ListN.{length, getD, length-set, List·getD-eq-default}
-use lib.Seq.{set-out, set-getD, getD-set-same, getD-set-other}
+use lib.ListN.{length, getD, length-set, List·getD-append, List·getD-eq-default}
+use lib.Seq.{set-append-left, set-out, set-getD, getD-set-same, getD-set-other}
 use Rattle.numbers.specs.Fields.{field, withField}
 use Rattle.numbers.proofs.Fields.{field-lt, field-zero, field-with-same, field-with-other, with-field-lt, with-field-self}
 use Rattle.numbers.proofs.Order.{lt-or-le, eq-or-ne}
@@ -26,7 +26,7 @@ module _ (memory : List ℕ) (map : Map) (x y : ℕ) where
   unfolding foundAt
   found-in-byte = in-byte map x y
 
-  -- in the byte where the pixel lies
+  -- and that byte is in the memory where the pixel lies there
   pub found-in-memory : placeOf map x y < length memory → foundAt memory map x y .at < length memory
   unfolding foundAt
   found-in-memory h = h
@@ -34,6 +34,11 @@ module _ (memory : List ℕ) (map : Map) (x y : ℕ) where
   pub pixel-beyond : length memory ≤ placeOf map x y → pixelAt memory map x y ≡ 0
   unfolding byteAt pixelAt
   pixel-beyond h = rw (List·getD-eq-default memory 0 h, field-zero (shiftOf map x y) (bitsOf (map .format)))
+
+  -- what lies behind the memory does not show in a pixel of it
+  pub pixel-append : (rest : List ℕ) → placeOf map x y < length memory → pixelAt (memory ++ rest) map x y ≡ pixelAt memory map x y
+  unfolding byteAt pixelAt
+  pixel-append rest h = rw (List·getD-append memory rest 0 (placeOf map x y) h)
 
   -- putting what is there changes nothing
   pub put-get : withPixel memory map x y (pixelAt memory map x y) ≡ memory
@@ -50,6 +55,11 @@ module _ (memory : List ℕ) (map : Map) (x y v : ℕ) where
   pub put-beyond : length memory ≤ placeOf map x y → withPixel memory map x y v ≡ memory
   unfolding withPixel
   put-beyond h = set-out memory (placeOf map x y) _ h
+
+  -- what lies behind the memory stays
+  pub put-append : (rest : List ℕ) → placeOf map x y < length memory → withPixel (memory ++ rest) map x y v ≡ withPixel memory map x y v ++ rest
+  unfolding byteAt withPixel
+  put-append rest h = rw (List·getD-append memory rest 0 (placeOf map x y) h) (set-append-left memory rest (placeOf map x y) _ h)
 
   -- every other byte stays
   pub byte-put-other : (j : ℕ) → (j ≡ placeOf map x y → ⊥) → getD (withPixel memory map x y v) j 0 ≡ getD memory j 0

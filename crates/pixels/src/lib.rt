@@ -47,7 +47,7 @@ fn index(map: Map, x: u16, y: u16) -> u32
     (y as u32) * ((map.width as u32) + 1) + (x as u32)
 }
 
-// The byte of memory in which the pixel lies, within the memory or beyond it.
+// The index of the byte in which the pixel lies, which may be beyond the memory.
 pub fn place(map: Map, x: u16, y: u16) -> usize
     ensures { λ r. ⌜ r ≡ placeOf map x y ⌝ }
 {

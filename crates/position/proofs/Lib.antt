@@ -1,3 +1,4 @@
+pub mod Behind
 pub mod Columns
 pub mod Examples
 pub mod Safety

@@ -17,30 +17,30 @@ use Rattle.moves.specs.declared.Flow.{Flow}
 use Rattle.moves.specs.declared.Setup.{Setup}
 use Rattle.moves.specs.declared.Pen.{Pen}
 use Rattle.moves.specs.Moves.{moved}
-use Rattle.moves.proofs.Kept.{pointed-moved}
+use Rattle.moves.proofs.Kept.{source-in, pattern-in, pointers-moved}
 use Rattle.position.specs.Places.{isWithin, onMap, maskX, maskY, inMask, isMove, isNulled}
 use Rattle.position.specs.Fates.{onZero}
 use Rattle.position.specs.Drawn.{sourcePixel}
-use Rattle.position.specs.Within.{sourceUsed, Within}
+use Rattle.position.specs.Within.{readsSource, Within}
 use Rattle.position.specs.Inner.{isLeftOut, sourceRead, Safe}
 use Rattle.position.proofs.Columns.{within-column}
 use Rattle.position.proofs.Writing.{on-map}
 
 -- ---- where the code reads
 
--- the source is read only where its map is used
-derived-used : (flow : Flow) → flow .derived ≡ true → sourceUsed flow ≡ true
-unfolding sourceUsed
-derived-used flow e = by (flow .foreground) (flow .background) (flow .derived) e
+-- a pattern made from the source, and a colour taken from it, read the source pixel
+pub derived-reads : (flow : Flow) → flow .derived ≡ true → readsSource flow ≡ true
+unfolding readsSource
+derived-reads flow e = by (flow .foreground) (flow .background) (flow .derived) e
   where
     by : (f b d : Bool) → d ≡ true → (f || b || d) ≡ true
     by true b d e = refl
     by false true d e = refl
     by false false d e = e
 
-picked-used : (flow : Flow) (foreground : Bool) → choose foreground (flow .foreground) (flow .background) ≡ true → sourceUsed flow ≡ true
-unfolding sourceUsed
-picked-used flow foreground = by foreground (flow .foreground) (flow .background) (flow .derived)
+pub picked-reads : (flow : Flow) (foreground : Bool) → choose foreground (flow .foreground) (flow .background) ≡ true → readsSource flow ≡ true
+unfolding readsSource
+picked-reads flow foreground = by foreground (flow .foreground) (flow .background) (flow .derived)
   where
     by : (t f b d : Bool) → choose t f b ≡ true → (f || b || d) ≡ true
     by t true b d e = refl
@@ -51,7 +51,7 @@ picked-used flow foreground = by foreground (flow .foreground) (flow .background
 -- so what is read for it is the source pixel where that is asked for
 pub derived-read : (s : Setup) (memory : List ℕ) (pen : Pen) → s .flow .derived ≡ true → sourceRead s memory pen ≡ sourcePixel s memory pen
 unfolding sourceRead
-derived-read s memory pen e = choose-true _ 0 (derived-used (s .flow) e)
+derived-read s memory pen e = choose-true _ 0 (derived-reads (s .flow) e)
 
 pub picked-read : (s : Setup) (memory : List ℕ) (pen : Pen) (foreground : Bool) (colour : ℕ)
     → choose (choose foreground (s .flow .foreground) (s .flow .background)) (sourceRead s memory pen) colour
@@ -60,7 +60,7 @@ unfolding sourceRead
 picked-read s memory pen foreground colour =
     by-test (λ (n : ℕ). n ≡ choose (choose foreground (s .flow .foreground) (s .flow .background)) (sourcePixel s memory pen) colour)
     (choose foreground (s .flow .foreground) (s .flow .background))
-    (λ e. choose-true _ 0 (picked-used (s .flow) foreground e) ∙ sym (choose-true _ colour e))
+    (λ e. choose-true _ 0 (picked-reads (s .flow) foreground e) ∙ sym (choose-true _ colour e))
     (λ e. sym (choose-false _ colour e))
 
 -- a position that is not left out is inside its map and the mask boundary
@@ -89,15 +89,16 @@ inside-within size map p held inside = held-within size map (p .x) (p .y) (insid
 
 module _ (s : Setup) (size : ℕ) (pen : Pen) where
   -- in mode 10 the mask pixel inside the boundary is one of its map
-  mask-inside : inMask s pen ≡ true → s .flow .mask ≡ 2 → (isWithin (s .mask .width) (maskX s pen) ≡ true) × (isWithin (s .mask .height) (maskY s pen) ≡ true)
+  mask-inside : inMask s pen ≡ true → s .flow .mask ≡ 2
+      → (isWithin (s .mask .width) (maskX s pen) ≡ true) × (isWithin (s .mask .height) (maskY s pen) ≡ true)
   unfolding isWithin maskX maskY inMask
   mask-inside inside used = and-eq-true-iff (isWithin (s .mask .width) (maskX s pen)) _ .0 (rw used at inside)
 
   pub safe-within : Safe s size pen → Within s size pen
   safe-within h =
       record {
-        pattern = λ used. inside-within size (s .pattern) (pen .pattern) (h .pattern used) (h .pointed .pattern used);
-        source = λ read. let used = h .used read in inside-within size (s .source) (pen .source) (h .source used) (h .pointed .source used);
+        pattern = λ used. inside-within size (s .pattern) (pen .pattern) (h .pattern used) (pattern-in s pen (h .pointers) used);
+        source = λ read. let used = h .used read in inside-within size (s .source) (pen .source) (h .source used) (source-in s pen (h .pointers) used);
         mask =
             λ on inside used.
             let m = mask-inside inside used in
@@ -113,5 +114,5 @@ module _ (s : Setup) (size : ℕ) (pen : Pen) where
         source = h .source;
         pattern = h .pattern;
         used = h .used;
-        pointed = pointed-moved s pen (h .pointed);
+        pointers = pointers-moved s pen (h .pointers);
       }

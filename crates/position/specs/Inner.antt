@@ -8,11 +8,11 @@ use Rattle.pixels.specs.Pixels.{withPixel}
 use Rattle.rules.specs.Maps.{endHolds}
 use Rattle.moves.specs.declared.Setup.{Setup}
 use Rattle.moves.specs.declared.Pen.{Pen}
-use Rattle.moves.specs.Inner.{Pointed}
+use Rattle.moves.specs.Inner.{pointersInside}
 use Rattle.position.specs.Places.{columnOf, onMap, inMask, isMove, isNulled}
 use Rattle.position.specs.Fates.{onZero, isCompared}
 use Rattle.position.specs.Drawn.{sourcePixel, mixedPixel}
-use Rattle.position.specs.Within.{sourceUsed}
+use Rattle.position.specs.Within.{readsSource}
 
 -- nothing is written, whatever the destination pixel is: every fate but the compare condition's
 unfoldable pub isLeftOut : Setup → List ℕ → Pen → Bool
@@ -25,9 +25,9 @@ writtenOf s memory pen =
     choose (isCompared s memory pen) memory
     (withPixel memory (s .destination) (columnOf (pen .destination .x)) (columnOf (pen .destination .y)) (mixedPixel s memory pen))
 
--- the source pixel as it is read, 0 where its map is not used
+-- the source pixel as it is read, 0 where it is not
 unfoldable pub sourceRead : Setup → List ℕ → Pen → ℕ
-sourceRead s memory pen = choose (sourceUsed (s .flow)) (sourcePixel s memory pen) 0
+sourceRead s memory pen = choose (readsSource (s .flow)) (sourcePixel s memory pen) 0
 
 -- every used map ends within a memory of this size, and used source and pattern pointers lie in theirs: what every move keeps
 pub record Safe (s : Setup) (size : ℕ) (pen : Pen) : Type 0 where
@@ -36,5 +36,5 @@ pub record Safe (s : Setup) (size : ℕ) (pen : Pen) : Type 0 where
   pub source : s .flow .source ≡ true → endHolds size (s .source) ≡ true
   pub pattern : s .flow .pattern ≡ true → endHolds size (s .pattern) ≡ true
   -- the source is read only where its map is used
-  pub used : sourceUsed (s .flow) ≡ true → s .flow .source ≡ true
-  pub pointed : Pointed s pen
+  pub used : readsSource (s .flow) ≡ true → s .flow .source ≡ true
+  pub pointers : pointersInside s pen ≡ true

@@ -7,7 +7,7 @@ ghost use Rattle.mixes.specs.Mixes.{mixed};
 ghost use Rattle.position.specs.Drawn as defined;
 ghost use Rattle.position.specs.Drawn.{isForeground, inkOf, drawn};
 ghost use Rattle.position.specs.Places.{onMap, inMask};
-ghost use Rattle.position.specs.Within.{sourceUsed, Within};
+ghost use Rattle.position.specs.Within.{readsSource, Within};
 ghost use Rattle.position.specs.Inner.{sourceRead, writtenOf};
 use crate::fates::is_compared;
 use crate::fates::is_left_out;
@@ -23,20 +23,20 @@ use pixels::get;
 use pixels::store;
 use pixels::value;
 
-// Whether the source map is used: a source field is 10, or the pattern is made from the source.
-fn uses_source(flow: Flow) -> bool
-    ensures { λ r. ⌜ r ≡ sourceUsed flow ⌝ }
+// Whether the source pixel is read: a source field is 10, or the pattern is made from the source.
+fn reads_source(flow: Flow) -> bool
+    ensures { λ r. ⌜ r ≡ readsSource flow ⌝ }
 {
     flow.foreground | flow.background | flow.derived
 }
 
-// The source pixel, and 0 where its map is not used.
+// The source pixel, and 0 where it is not read.
 fn source_pixel(setup: Setup, memory: &[u8], pen: Pen) -> u32
     requires { ⌜ Within setup (length (now memory)) pen ⌝ }
     ensures { λ r. ⌜ r ≡ sourceRead setup (now (memory .entry)) pen ⌝ }
 {
     let flow = setup.flow;
-    if uses_source(flow) {
+    if reads_source(flow) {
         get(memory, setup.source, pen.source.x, pen.source.y)
     } else {
         0

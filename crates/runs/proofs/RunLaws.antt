@@ -1,7 +1,7 @@
 -- What a run of any length does to memory and to the positions left, and that one run is two in a row: what each step keeps, the run keeps, by induction over its positions.
 use mathlib.Core.Path.{_≡_, refl, sym, ap, _∙_}
 use mathlib.Core.Bool.{Bool, true, false, false≢true}
-use mathlib.Core.List.{List}
+use mathlib.Core.List.{List, _++_}
 use mathlib.Core.Logic.{_⊎_, inl, inr, ⊎-elim}
 use Prim.Native.Nat.{ℕ, zero, suc, _+_, _≤_, min}
 use native.Mathlib.Omega.{arith}
@@ -17,7 +17,9 @@ use Rattle.moves.specs.declared.Setup.{Setup}
 use Rattle.moves.specs.declared.Pen.{Pen}
 use Rattle.moves.proofs.Counters.{left-moved, counters-moved}
 use Rattle.position.specs.Inner.{Safe}
-use Rattle.position.proofs.Safety.{safe-moved}
+use Rattle.position.specs.Within.{Within}
+use Rattle.position.proofs.Behind.{drawn-append}
+use Rattle.position.proofs.Safety.{safe-within, safe-moved}
 use Rattle.position.proofs.Writing.{length-drawn, drawn-other}
 use Rattle.runs.specs.Runs.{Run, begun, positioned, stepped, after}
 use Rattle.runs.proofs.AfterLaws.{stepped-idle, stepped-on, after-add}
@@ -62,6 +64,23 @@ bytes-after s j ne n t =
 pub safe-after : (s : Setup) (size n : ℕ) (t : Run) → Safe s size (t .pen) → Safe s size (after s n t .pen)
 unfolding positioned
 safe-after s size n t h = kept-after s (λ u. Safe s size (u .pen)) (λ u going held. safe-moved s size (u .pen) held) n t h
+
+-- a run with more bytes behind its memory
+unfoldable pub before : List ℕ → Run → Run
+before rest t = record { pen = t .pen; memory = t .memory ++ rest; done = t .done }
+
+-- a safe drawing neither sees nor changes them
+pub behind-after : (s : Setup) (rest : List ℕ) (n : ℕ) (t : Run) → Safe s (length (t .memory)) (t .pen) → after s n (before rest t) ≡ before rest (after s n t)
+unfolding after before positioned
+behind-after s rest zero t safe = refl
+behind-after s rest (suc n) t safe =
+    let u : Run = after s n t in
+    let inside : Within s (length (u .memory)) (u .pen) = rw (length-after s n t) (safe-within s _ _ (safe-after s _ n t safe)) in
+    rw (behind-after s rest n t safe)
+    (by-stepped s u (λ v. stepped s (before rest u) ≡ before rest v) (λ idle. stepped-idle s (before rest u) idle)
+    (λ going.
+    stepped-on s (before rest u) going
+    ∙ (λ i. record { pen = positioned s u .pen; memory = drawn-append s (u .memory) rest (u .pen) inside i; done = positioned s u .done })))
 
 -- ---- what came before
 
@@ -143,7 +162,11 @@ after-done s pen memory (suc n) =
     by-stepped s u (λ (v : Run). after s (v .done) (begun pen memory) ≡ v)
     (λ idle. after-done s pen memory n)
     (λ going.
-    ⊎-elim (λ (all : u .done ≡ n). ap (λ k. after s k (begun pen memory)) (let more : u .done + 1 ≡ suc n = omega arith in more) ∙ stepped-on s u going) (λ idle. absurd (false≢true (sym idle ∙ going))) (reached s pen memory n .1))
+    ⊎-elim
+    (λ (all : u .done ≡ n).
+    let more : u .done + 1 ≡ suc n = omega arith in ap (λ k. after s k (begun pen memory)) more ∙ stepped-on s u going)
+    (λ idle. absurd (false≢true (sym idle ∙ going)))
+    (reached s pen memory n .1))
 
 module _ (operations : ℕ) (s : Setup) where
   abbrev holds : Pen → Bool

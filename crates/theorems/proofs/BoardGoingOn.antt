@@ -1,12 +1,12 @@
--- Point 3 at the calls for C: each call on an image does to it what the record's call does to the record that it loads to, so a list of calls is a drawing's life, and an image is that of one record only.
+-- Point 3 at the calls for C: a call does to an image what the record's call does to the record that it loads to, so a list of calls is a life.
 use mathlib.Core.Path.{_≡_, refl, sym, ap, _∙_}
-use mathlib.Core.Bool.{Bool, true, false, not, _&&_}
+use mathlib.Core.Bool.{Bool, true, false, _&&_}
 use mathlib.Core.List.{List, [], _∷_}
 use Prim.Native.Nat.{ℕ, _+_, _^_, _<_, min}
 use lib.ListN.{length, getD}
 use lib.Dec.{eqb}
 use native.Mathlib.Omega.{arith}
-use borrow.Author.Tests.{eq-eqb}
+use borrow.Author.Tests.{eq-eqb, ne-eqb}
 use Rattle.numbers.specs.declared.bytes.Write.{Write}
 use Rattle.parts.specs.Refusals.{isAccepted}
 use Rattle.parts.proofs.RefusalLaws.{number-accepted}
@@ -17,15 +17,15 @@ use Rattle.coprocessor.specs.Images.{loads, loaded}
 use Rattle.board.specs.Calls.{writeNumber, writeImage, runNumber, runImage}
 use Rattle.theorems.specs.Totals.{totalIn}
 use Rattle.theorems.specs.LoadsTo.{LoadsTo}
-use Rattle.theorems.specs.Cuts.{Event, Stand, standing, happened, lived, spares, undisturbed, allowanceOf, allowed, WentOn}
-use Rattle.theorems.specs.BoardCuts.{refusalIn, valueIn, Call, BoardStand, boardStanding, called, calledAll, boardSpares, boardUndisturbed, allowanceIn, allowedBy, BoardWentOn}
+use Rattle.theorems.specs.Cuts.{Event, Stand, standing, happened, lived, Spares, Undisturbed, allowanceOf, allowed, WentOn}
+use Rattle.theorems.specs.BoardCuts.{refusalIn, valueIn, Call, BoardStand, boardStanding, called, calledAll, BoardSpares, BoardUndisturbed, allowanceIn, allowedBy, BoardWentOn}
 use Rattle.theorems.proofs.LoadedLaws.{held-loaded}
 use Rattle.theorems.proofs.GoingOn.{drawing-goes-on}
 use Rattle.theorems.proofs.BoardLaws.{one-image, image-written, image-ran, image-run-answer, memory-ran}
 
 -- ---- a call is an event
 
--- what a call is to the record: a copy and a load change nothing, as a read does
+-- what a call is to the record: a copy, a load and a run of another image leave it as a read does
 eventOf : Call → Event
 eventOf (Call.run allowance small) = Event.run allowance
 eventOf Call.copy = Event.read 0 0
@@ -33,6 +33,7 @@ eventOf (Call.read offset size) = Event.read offset size
 eventOf (Call.load bytes) = Event.read 0 0
 eventOf (Call.write w) = Event.write w
 eventOf (Call.lent other allowance small) = Event.lent other allowance
+eventOf (Call.others other allowance) = Event.read 0 0
 
 eventsOf : List Call → List Event
 eventsOf [] = []
@@ -74,50 +75,52 @@ module _ (b : BoardStand) (s : Stand) (h : Shows b s) where
       rw (h .image .accepted)
       (number-accepted (writeAnswer w (loaded (b .image)) .refusal) ∙ (λ i. isAccepted (writeAnswer w (h .image .record-same i) .refusal)))
 
-  -- a call leaves what its event leaves
-  shows-called : (c : Call) → Shows (called c b) (happened (eventOf c) s)
-  unfolding called happened eventOf
-  shows-called (Call.run a small) =
+  -- a call that spares the drawing leaves what its event leaves
+  shows-called : (c : Call) → BoardSpares c b → Shows (called c b) (happened (eventOf c) s)
+  unfolding called BoardSpares happened eventOf
+  shows-called (Call.run a small) spared =
       record {
         image = run-image (b .memory) (s .memory) a (h .memory);
         memory = memory-ran (b .image) (b .memory) a (h .image .accepted) ∙ (λ i. runMemory (h .image .record-same i) (h .memory i) a);
         done = λ i. h .done i + run-value (b .memory) (s .memory) a small (h .memory) i;
         accepted = λ i. h .accepted i && run-number (b .memory) (s .memory) a small (h .memory) i;
       }
-  shows-called Call.copy = h
-  shows-called (Call.read offset size) = h
-  shows-called (Call.load bytes) = h
-  shows-called (Call.write w) = record { image = write-image w; memory = h .memory; done = h .done; accepted = h .accepted }
-  shows-called (Call.lent other a small) =
+  shows-called Call.copy spared = h
+  shows-called (Call.read offset size) spared = h
+  shows-called (Call.load bytes) spared = h
+  shows-called (Call.write w) spared = record { image = write-image w; memory = h .memory; done = h .done; accepted = h .accepted }
+  shows-called (Call.lent other a small) spared =
       record {
         image = run-image other other a refl;
         memory = h .memory;
         done = λ i. h .done i + run-value other other a small refl i;
         accepted = h .accepted;
       }
+  shows-called (Call.others other a) spared = record { image = h .image; memory = spared ∙ h .memory; done = h .done; accepted = h .accepted }
 
-  -- and spares the drawing where its event does
-  spares-called : (c : Call) → boardSpares c b ≡ spares (eventOf c) s
-  unfolding boardSpares spares eventOf
-  spares-called (Call.run a small) = refl
-  spares-called Call.copy = refl
-  spares-called (Call.read offset size) = refl
-  spares-called (Call.load bytes) = refl
-  spares-called (Call.write w) = ap not (write-number w)
-  spares-called (Call.lent other a small) = ap not (run-number other other a small refl)
+  -- and its event spares the drawing too
+  spares-called : (c : Call) → BoardSpares c b → Spares (eventOf c) s
+  unfolding BoardSpares Spares eventOf
+  spares-called (Call.run a small) spared = tt
+  spares-called Call.copy spared = tt
+  spares-called (Call.read offset size) spared = tt
+  spares-called (Call.load bytes) spared = tt
+  spares-called (Call.write w) spared = sym (write-number w) ∙ ne-eqb _ 0 spared
+  spares-called (Call.lent other a small) spared = sym (run-value other other a small refl) ∙ spared
+  spares-called (Call.others other a) spared = tt
 
 -- ---- calls are a life
 
-shows-all : (calls : List Call) (b : BoardStand) (s : Stand) → Shows b s → Shows (calledAll calls b) (lived (eventsOf calls) s)
-unfolding calledAll lived eventsOf
-shows-all [] b s h = h
-shows-all (c ∷ calls) b s h = shows-all calls (called c b) (happened (eventOf c) s) (shows-called b s h c)
+shows-all : (calls : List Call) (b : BoardStand) (s : Stand) → Shows b s → BoardUndisturbed calls b → Shows (calledAll calls b) (lived (eventsOf calls) s)
+unfolding calledAll BoardUndisturbed lived eventsOf
+shows-all [] b s h quiet = h
+shows-all (c ∷ calls) b s h quiet = shows-all calls (called c b) (happened (eventOf c) s) (shows-called b s h c (quiet .0)) (quiet .1)
 
-undisturbed-all : (calls : List Call) (b : BoardStand) (s : Stand) → Shows b s → boardUndisturbed calls b ≡ undisturbed (eventsOf calls) s
-unfolding boardUndisturbed undisturbed eventsOf
-undisturbed-all [] b s h = refl
-undisturbed-all (c ∷ calls) b s h =
-    λ i. spares-called b s h c i && undisturbed-all calls (called c b) (happened (eventOf c) s) (shows-called b s h c) i
+undisturbed-all : (calls : List Call) (b : BoardStand) (s : Stand) → Shows b s → BoardUndisturbed calls b → Undisturbed (eventsOf calls) s
+unfolding BoardUndisturbed Undisturbed eventsOf
+undisturbed-all [] b s h quiet = tt
+undisturbed-all (c ∷ calls) b s h quiet =
+    (spares-called b s h c (quiet .0), undisturbed-all calls (called c b) (happened (eventOf c) s) (shows-called b s h c (quiet .0)) (quiet .1))
 
 allowance-same : (c : Call) → allowanceIn c ≡ allowanceOf (eventOf c)
 unfolding allowanceIn allowanceOf eventOf
@@ -127,6 +130,7 @@ allowance-same (Call.read offset size) = refl
 allowance-same (Call.load bytes) = refl
 allowance-same (Call.write w) = refl
 allowance-same (Call.lent other a small) = refl
+allowance-same (Call.others other a) = refl
 
 allowed-same : (calls : List Call) → allowedBy calls ≡ allowed (eventsOf calls)
 unfolding allowedBy allowed eventsOf
@@ -162,10 +166,10 @@ written-accepted image w none = by (loads image) refl
     by true e = (e, sym (number-accepted (writeRefusal w (loaded image))) ∙ eq-eqb _ 0 (rw e at none))
     by false e = let ten = rw e at none in absurd (omega arith)
 
--- 01, How tight the promises are, point 3, from the `xga_write` that starts the drawing
+-- docs/PROMISES.md, Point 3, from the `xga_write` that starts the drawing
 pub board-goes-on : (w : Write) (image memory : List ℕ) (calls : List Call) → ((i : ℕ) → getD image i 0 < 256)
     → writeNumber image w ≡ 0 → startsBy w (stored w (loaded image)) ≡ true → length memory ≡ loaded (writeImage image w) .size
-    → boardUndisturbed calls (boardStanding (writeImage image w) memory) ≡ true
+    → BoardUndisturbed calls (boardStanding (writeImage image w) memory)
     → BoardWentOn (writeImage image w) memory (totalIn (loaded (writeImage image w))) calls (calledAll calls (boardStanding (writeImage image w) memory))
 unfolding standing boardStanding
 board-goes-on w image memory calls bytes none starts long quiet =
@@ -173,7 +177,10 @@ board-goes-on w image memory calls bytes none starts long quiet =
     let c : Coprocessor = writeAnswer w (loaded image) .coprocessor in
     let start : LoadsTo (writeImage image w) c = image-written image w bytes (opened .0) in
     let same : loaded (writeImage image w) ≡ c = start .record-same in
-    let begins : Shows (boardStanding (writeImage image w) memory) (standing c memory) = record { image = start; memory = refl; done = refl; accepted = refl } in
-    let on = drawing-goes-on w (loaded image) memory (eventsOf calls) (held-loaded image bytes) (opened .1) starts (long ∙ ap (λ (d : Coprocessor). d .size) same)
-    (sym (undisturbed-all calls _ _ begins) ∙ quiet) in
-    rw same (shown (writeImage image w) memory c start (totalIn c) calls _ _ (shows-all calls _ _ begins) on)
+    let begins : Shows (boardStanding (writeImage image w) memory) (standing c memory) =
+    record { image = start; memory = refl; done = refl; accepted = refl } in
+    let size = ap (λ (d : Coprocessor). d .size) same in
+    let held = held-loaded image bytes in
+    let events = undisturbed-all calls _ _ begins quiet in
+    let on = drawing-goes-on w (loaded image) memory (eventsOf calls) held (opened .1) starts (long ∙ size) events in
+    rw same (shown (writeImage image w) memory c start (totalIn c) calls _ _ (shows-all calls _ _ begins quiet) on)

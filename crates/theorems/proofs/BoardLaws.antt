@@ -158,7 +158,7 @@ image-run-done image memory n e same =
     let done = run-done (loaded image) memory accepted n in
     rw e (omega (arith, none, done))
 
--- 01, How tight the promises are, point 3: two runs in a row are one; the image is all the state there is, so the second may be on another board
+-- docs/PROMISES.md, Point 3: two runs in a row are one; the image is all the state there is, so the second may be on another board
 pub image-run-run : (image memory : List ℕ) (a b : ℕ) → ((i : ℕ) → getD image i 0 < 256) → loads image ≡ true → length memory ≡ loaded image .size
     → (runImage (runImage image memory a) (runBytes image memory a) b ≡ runImage image memory (a + b))
     × (runBytes (runImage image memory a) (runBytes image memory a) b ≡ runBytes image memory (a + b))

@@ -17,7 +17,7 @@ use Rattle.coprocessor.specs.Runs.{runRefusal, runAnswer}
 use Rattle.coprocessor.proofs.SafeLaws.{run-allowed}
 use Rattle.theorems.specs.Held.{Held}
 use Rattle.theorems.specs.Totals.{totalIn, leftIn}
-use Rattle.theorems.specs.Cuts.{Event, standing, lived, undisturbed, allowed, WentOn}
+use Rattle.theorems.specs.Cuts.{Event, standing, lived, Undisturbed, allowed, WentOn}
 use Rattle.theorems.proofs.AcceptedWrites.{accepted-allowed}
 use Rattle.theorems.proofs.CutLaws.{cuts}
 use Rattle.theorems.proofs.HeldWrites.{held-written}
@@ -38,7 +38,7 @@ idle-at c memory n accepted =
 
 -- for every valid record, with whatever positions left
 pub goes-on : (c : Coprocessor) (memory : List ℕ) (events : List Event) → Held c → validOf c ≡ true → length memory ≡ c .size
-    → undisturbed events (standing c memory) ≡ true
+    → Undisturbed events (standing c memory)
     → WentOn c memory (leftIn c) events (lived events (standing c memory))
 goes-on c memory events held valid long quiet =
     let n = allowed events in
@@ -52,10 +52,10 @@ goes-on c memory events held valid long quiet =
       ended = idle-at c memory n accepted;
     })
 
--- 01, How tight the promises are, point 3, from the write that starts it: the total is fixed by the dimensions or the codes that the write leaves
+-- docs/PROMISES.md, Point 3, from the write that starts it: the total is fixed by the dimensions or the codes that the write leaves
 pub drawing-goes-on : (w : Write) (c : Coprocessor) (memory : List ℕ) (events : List Event) → Held c
     → isAccepted (writeRefusal w c) ≡ true → startsBy w (stored w c) ≡ true → length memory ≡ writeAnswer w c .coprocessor .size
-    → undisturbed events (standing (writeAnswer w c .coprocessor) memory) ≡ true
+    → Undisturbed events (standing (writeAnswer w c .coprocessor) memory)
     → WentOn (writeAnswer w c .coprocessor) memory (totalIn (writeAnswer w c .coprocessor)) events (lived events (standing (writeAnswer w c .coprocessor) memory))
 drawing-goes-on w c memory events held accepted starts long quiet =
     rw (← start-total w c accepted starts)

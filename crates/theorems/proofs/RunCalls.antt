@@ -17,7 +17,7 @@ use Rattle.coprocessor.specs.Runs.{setupOf, penOf, withPen, ranOf, runRefusal, 
 use Rattle.coprocessor.proofs.SafeLaws.{run-allowed}
 use Rattle.theorems.specs.Totals.{leftIn}
 use Rattle.theorems.proofs.Refused.{run-refused}
-use Rattle.theorems.proofs.RunValid.{setup-kept, pen-kept, with-pen-twice, valid-counters, ran-valid}
+use Rattle.theorems.proofs.RunValid.{setup-kept, pen-kept, with-pen-twice, with-pen-own, valid-counters, ran-valid}
 
 -- ---- an accepted run
 
@@ -78,6 +78,17 @@ done-le c memory n = by (isAccepted (runRefusal c memory)) refl
     by : (t : Bool) → isAccepted (runRefusal c memory) ≡ t → runAnswer c memory n .done ≤ n
     by true e = omega (arith, run-done c memory e n)
     by false e = omega (arith, run-refused c memory n e .1)
+
+-- a run that does no position leaves the record as it was
+pub none-done : (c : Coprocessor) (memory : List ℕ) (n : ℕ) → runAnswer c memory n .done ≡ 0 → runAnswer c memory n .coprocessor ≡ c
+unfolding runAnswer ranOf after begun
+none-done c memory n none = by (isAccepted (runRefusal c memory)) refl
+  where
+    by : (t : Bool) → isAccepted (runRefusal c memory) ≡ t → runAnswer c memory n .coprocessor ≡ c
+    by true e =
+        ap (λ (d : Drawn). d .coprocessor) (same-answer c memory e n ∙ ap (runAnswer c memory) none ∙ run-accepted c memory e 0 .1)
+        ∙ with-pen-own c
+    by false e = run-refused c memory n e .2
 
 -- ---- two runs in a row
 

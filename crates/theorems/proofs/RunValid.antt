@@ -26,9 +26,10 @@ use Rattle.rules.proofs.PointerLaws.{inside-x, inside-y}
 use Rattle.moves.specs.declared.Setup.{Setup}
 use Rattle.moves.specs.declared.Pen.{Pen}
 use Rattle.moves.specs.Decoded.{flowOf}
+use Rattle.moves.specs.Inner.{pointersInside}
 use Rattle.moves.specs.Moves.{penWith, penStepped, rowPassed, moved}
 use Rattle.moves.proofs.Counters.{counters-moved}
-use Rattle.moves.proofs.Kept.{kept, pointersInside, pointers-moved, SpotOn, destination-moved, error-moved}
+use Rattle.moves.proofs.Kept.{kept, pointers-moved, SpotOn, destination-moved, error-moved}
 use Rattle.runs.specs.Runs.{Run, begun, positioned, after}
 use Rattle.runs.proofs.AfterLaws.{after-idle}
 use Rattle.runs.proofs.RunLaws.{kept-after}

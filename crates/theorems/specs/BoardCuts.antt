@@ -1,7 +1,7 @@
 -- A drawing at the calls for C: what may happen between two runs to the image and the memory that hold it, and what that leaves.
 use Prim.Native.Nat.{ℕ, _+_, _/_, _%_, _^_, _≤_, _<_, min}
 use mathlib.Core.Path.{_≡_}
-use mathlib.Core.Bool.{Bool, true, false, not, _&&_}
+use mathlib.Core.Bool.{Bool, true, false, _&&_}
 use mathlib.Core.List.{List, [], _∷_}
 use mathlib.Core.Logic.{_↔_}
 use lib.Dec.{eqb}
@@ -31,6 +31,8 @@ pub data Call : Type 0 where
   write : (w : Write) → Call
   -- `xga_run` lent another memory
   lent : (other : List ℕ) (allowance : ℕ) → allowance < 2 ^ 32 → Call
+  -- `xga_run` of another image, a damaged one say, over the drawing's memory
+  others : (other : List ℕ) (allowance : ℕ) → Call
 
 -- docs/DECISIONS.md, 38: where a drawing stands: its image, its memory, the positions answered since, and whether every run over its memory was accepted
 pub record BoardStand : Type 0 where
@@ -63,25 +65,28 @@ called (lent other allowance small) s =
       done = s .done + valueIn (runNumber (s .image) other allowance);
       accepted = s .accepted;
     }
+called (others other allowance) s =
+    record { image = s .image; memory = runBytes other (s .memory) allowance; done = s .done; accepted = s .accepted }
 
 -- docs/DECISIONS.md, 38: the calls one after another, the first of the list first
 unfoldable pub calledAll : List Call → BoardStand → BoardStand
 calledAll [] s = s
 calledAll (c ∷ cs) s = calledAll cs (called c s)
 
--- 01, How tight the promises are, point 3: no register write accepted, no other memory drawn in
-unfoldable pub boardSpares : Call → BoardStand → Bool
-boardSpares (run allowance small) s = true
-boardSpares copy s = true
-boardSpares (read offset length) s = true
-boardSpares (load bytes) s = true
-boardSpares (write w) s = not (eqb (writeNumber (s .image) w) 0)
-boardSpares (lent other allowance small) s = not (eqb (refusalIn (runNumber (s .image) other allowance)) 0)
+-- docs/PROMISES.md, Point 3: no register write accepted, no other memory drawn in, nobody else writing the memory
+unfoldable pub BoardSpares : Call → BoardStand → Type 0
+BoardSpares (run allowance small) s = Unit {0}
+BoardSpares copy s = Unit {0}
+BoardSpares (read offset length) s = Unit {0}
+BoardSpares (load bytes) s = Unit {0}
+BoardSpares (write w) s = writeNumber (s .image) w ≡ 0 → ⊥
+BoardSpares (lent other allowance small) s = valueIn (runNumber (s .image) other allowance) ≡ 0
+BoardSpares (others other allowance) s = runBytes other (s .memory) allowance ≡ s .memory
 
--- 01, How tight the promises are, point 3: so at each call, as the drawing stands then
-unfoldable pub boardUndisturbed : List Call → BoardStand → Bool
-boardUndisturbed [] s = true
-boardUndisturbed (c ∷ cs) s = boardSpares c s && boardUndisturbed cs (called c s)
+-- docs/PROMISES.md, Point 3: so at each call, as the drawing stands then
+unfoldable pub BoardUndisturbed : List Call → BoardStand → Type 0
+BoardUndisturbed [] s = Unit {0}
+BoardUndisturbed (c ∷ cs) s = BoardSpares c s × BoardUndisturbed cs (called c s)
 
 -- docs/DECISIONS.md, 38: what a call allows
 unfoldable pub allowanceIn : Call → ℕ
@@ -91,13 +96,14 @@ allowanceIn (read offset length) = 0
 allowanceIn (load bytes) = 0
 allowanceIn (write w) = 0
 allowanceIn (lent other allowance small) = 0
+allowanceIn (others other allowance) = 0
 
 -- docs/DECISIONS.md, 38: the summed allowances
 unfoldable pub allowedBy : List Call → ℕ
 allowedBy [] = 0
 allowedBy (c ∷ cs) = allowanceIn c + allowedBy cs
 
--- 01, How tight the promises are, point 3: where a drawing of so many positions stands after these calls
+-- docs/PROMISES.md, Point 3: where a drawing of so many positions stands after these calls
 pub record BoardWentOn (image memory : List ℕ) (total : ℕ) (calls : List Call) (s : BoardStand) : Type 0 where
   -- every run over its memory was accepted
   pub accepted : s .accepted ≡ true

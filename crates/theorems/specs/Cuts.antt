@@ -1,7 +1,7 @@
 -- A drawing cut as often as one likes, carried from one coprocessor to another, and tried with calls that are refused: what may happen to it, and what that leaves.
 use Prim.Native.Nat.{ℕ, _+_, _≤_, min}
 use mathlib.Core.Path.{_≡_}
-use mathlib.Core.Bool.{Bool, true, false, not, _&&_}
+use mathlib.Core.Bool.{Bool, true, false, _&&_}
 use mathlib.Core.List.{List, [], _∷_}
 use mathlib.Core.Logic.{_↔_}
 use lib.ListN.{length}
@@ -27,8 +27,10 @@ pub data Event : Type 0 where
   write : (w : Write) → Event
   -- 01, refusal 9: a run lent another memory
   lent : (other : List ℕ) (allowance : ℕ) → Event
-  -- 01, State image: a load of other bytes
+  -- 01, State image: a load of any bytes
   load : (bytes : List ℕ) → Event
+  -- 01, The functions: a run of another coprocessor over the drawing's memory
+  others : (other : Coprocessor) (allowance : ℕ) → Event
 
 -- docs/DECISIONS.md, 38: where a drawing stands: its coprocessor, its memory, the positions done since, and whether every run over its memory and every move was accepted
 pub record Stand : Type 0 where
@@ -70,26 +72,29 @@ happened (lent other allowance) s =
     }
 happened (load bytes) s =
     record { coprocessor = loadAnswer (s .coprocessor) bytes .coprocessor; memory = s .memory; done = s .done; accepted = s .accepted }
+happened (others other allowance) s =
+    record { coprocessor = s .coprocessor; memory = runMemory other (s .memory) allowance; done = s .done; accepted = s .accepted }
 
 -- docs/DECISIONS.md, 38: the events one after another, the first of the list first
 unfoldable pub lived : List Event → Stand → Stand
 lived [] s = s
 lived (e ∷ es) s = lived es (happened e s)
 
--- 01, How tight the promises are, point 3: no register write accepted, no other memory drawn in, nothing else loaded
-unfoldable pub spares : Event → Stand → Bool
-spares (run allowance) s = true
-spares (movedTo other buffer long) s = true
-spares (read offset length) s = true
-spares (save buffer) s = true
-spares (write w) s = not (isAccepted (writeAnswer w (s .coprocessor) .refusal))
-spares (lent other allowance) s = not (isAccepted (runAnswer (s .coprocessor) other allowance .refusal))
-spares (load bytes) s = not (isAccepted (loadAnswer (s .coprocessor) bytes .refusal))
+-- docs/PROMISES.md, Point 3: no register write accepted, no other memory drawn in, nothing else loaded, nobody else writing the memory
+unfoldable pub Spares : Event → Stand → Type 0
+Spares (run allowance) s = Unit {0}
+Spares (movedTo other buffer long) s = Unit {0}
+Spares (read offset length) s = Unit {0}
+Spares (save buffer) s = Unit {0}
+Spares (write w) s = isAccepted (writeAnswer w (s .coprocessor) .refusal) ≡ false
+Spares (lent other allowance) s = runAnswer (s .coprocessor) other allowance .done ≡ 0
+Spares (load bytes) s = loadAnswer (s .coprocessor) bytes .coprocessor ≡ s .coprocessor
+Spares (others other allowance) s = runMemory other (s .memory) allowance ≡ s .memory
 
--- 01, How tight the promises are, point 3: so at each event, as the drawing stands then
-unfoldable pub undisturbed : List Event → Stand → Bool
-undisturbed [] s = true
-undisturbed (e ∷ es) s = spares e s && undisturbed es (happened e s)
+-- docs/PROMISES.md, Point 3: so at each event, as the drawing stands then
+unfoldable pub Undisturbed : List Event → Stand → Type 0
+Undisturbed [] s = Unit {0}
+Undisturbed (e ∷ es) s = Spares e s × Undisturbed es (happened e s)
 
 -- docs/DECISIONS.md, 38: what an event allows: a run over the drawing's memory its allowance, any other nothing
 unfoldable pub allowanceOf : Event → ℕ
@@ -100,13 +105,14 @@ allowanceOf (save buffer) = 0
 allowanceOf (write w) = 0
 allowanceOf (lent other allowance) = 0
 allowanceOf (load bytes) = 0
+allowanceOf (others other allowance) = 0
 
 -- docs/DECISIONS.md, 38: the summed allowances
 unfoldable pub allowed : List Event → ℕ
 allowed [] = 0
 allowed (e ∷ es) = allowanceOf e + allowed es
 
--- 01, How tight the promises are, point 3: where a drawing of so many positions stands after these events
+-- docs/PROMISES.md, Point 3: where a drawing of so many positions stands after these events
 pub record WentOn (c : Coprocessor) (memory : List ℕ) (total : ℕ) (events : List Event) (s : Stand) : Type 0 where
   -- every run over its memory and every move was accepted
   pub accepted : s .accepted ≡ true

@@ -1,4 +1,4 @@
--- `get` is the pixel: the field that is found of its byte, 0 beyond the memory.
+-- `get` is the pixel: the field that is found of its byte, which is there by what is required.
 use Rattle.pixels.specs.Pixels.{pixelAt}
 use Rattle.pixels.specs.Inner.{foundAt}
 use Rattle.pixels.proofs.Pixels.{found-in-byte}

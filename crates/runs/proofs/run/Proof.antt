@@ -18,7 +18,11 @@ use Rattle.runs.proofs.run.Tie as tie
 
 abbrev Inv-loop : tie.InvT-loop
 Inv-loop setup memory₀ allowance pen₀ done₀ going₀ memory pen done going =
-    (done ≤ allowance) × (length memory ≡ length memory₀) × (after setup done (begun pen₀ memory₀) ≡ record { pen = pen; memory = memory; done = done }) × (going ≡ unfinished (pen .drawing)) × (going ≡ true → Safe setup (length memory₀) pen)
+    (done ≤ allowance)
+    × (length memory ≡ length memory₀)
+    × (after setup done (begun pen₀ memory₀) ≡ record { pen = pen; memory = memory; done = done })
+    × (going ≡ unfinished (pen .drawing))
+    × (going ≡ true → Safe setup (length memory₀) pen)
 
 abbrev μ-loop : tie.MeasureT-loop
 μ-loop setup memory₀ allowance pen₀ done₀ going₀ memory pen done going = allowance - done
@@ -42,7 +46,7 @@ draw-requires c κs =
     rw (at .inv .1) (safe-within _ _ _ (at .inv .4 (turn (c .before) .1)))
 
 next-requires : tie.Need-next-requires Inv-loop μ-loop
-next-requires c κs = c .before .before .before .before .before .loop .inv .4 (turn (c .before .before .before .before) .1) .pointed
+next-requires c κs = c .before .before .before .before .before .loop .inv .4 (turn (c .before .before .before .before) .1) .pointers
 
 add-done : tie.Need-add-done Inv-loop μ-loop
 add-done c = omega (arith, turn (c .before .before .before .before .before) .0)
@@ -75,7 +79,8 @@ returns : tie.Need-returns Inv-loop μ-loop
 returns c =
     let at = c .before .loop in
     let u : Run = record { pen = at .pen; memory = at .memory; done = at .done } in
-    parts _ u (after-stop _ _ _ _ u (at .inv .2) (at .inv .0) ((λ i. ltb (at .done) (c .before .before .before .before .args .allowance) && sym (at .inv .3) i) ∙ c .loop-test .left))
+    let stop = (λ i. ltb (at .done) (c .before .before .before .before .args .allowance) && sym (at .inv .3) i) ∙ c .loop-test .left in
+    parts _ u (after-stop _ _ _ _ u (at .inv .2) (at .inv .0) stop)
 
 pub run-spec : {M : Type 1} → statement M
 run-spec =

@@ -64,10 +64,11 @@ returns-2 : tie.Need-returns-2
 unfolding runAnswer runMemory
 returns-2 c =
     let a = c .before .before .before .before .before .before .before .before .before .before .before .before .before .args in
-    let accepted = sym (answered (c .before .before .before .before .before .before .before .before .before)) ∙ not-false _ (c .before .before .before .before .before .before .before .before .if1 .left) in
+    let branch = c .before .before .before .before .before .before .before .before in
+    let accepted = sym (answered (branch .before)) ∙ not-false _ (branch .if1 .left) in
     let p = ran (c .before .before .before .before) in (
       λ i. record {
-        refusal = c .before .before .before .before .before .before .before .before .before .before .run-refusal .ensures i;
+        refusal = branch .before .before .run-refusal .ensures i;
         done = (p .1 ∙ sym (choose-true _ 0 accepted)) i;
         coprocessor = (c .with-pen .ensures ∙ ap (withPen (a .self)) (p .0) ∙ sym (choose-true _ (a .self) accepted)) i;
       },

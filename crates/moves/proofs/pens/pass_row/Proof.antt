@@ -1,10 +1,14 @@
 -- `pass_row` is the definition, field by field: each call gives a part of its field, and a point of choices is the choice of points.
+use mathlib.Core.Path.{_≡_}
+use mathlib.Core.Bool.{true}
 use mir.Val.{SFits}
 use mir.Syntax.{w16, w32}
 use mir.ValLaws.{toZ-ofZ}
 use Rattle.moves.specs.Moves.{rowPoint, rowSpot, rowPassed}
 use Rattle.moves.proofs.Choices.{choose-point}
+use Rattle.rules.specs.Maps.{isInside}
 use Rattle.rules.proofs.PointerLaws.{inside-x, inside-y}
+use Rattle.moves.proofs.Kept.{source-in, pattern-in}
 use borrow.Author.Needs.{needs}
 use Rattle.moves.proofs.pens.pass_row.Statement.{statement}
 use Rattle.moves.proofs.pens.pass_row.Tie as tie
@@ -19,17 +23,24 @@ down c = search (needs, c .struct-told .given)
 error : (c : tie.After-struct-told) → SFits w32 (c .before .before .before .before .before .before .before .args .pen .e)
 error c = search (needs, c .struct-told .given)
 
+-- used pointers lie in their maps
+source-inside : (c : tie.Start) → c .args .setup .flow .source ≡ true → isInside (c .args .setup .source) (c .args .pen .source) ≡ true
+source-inside c = source-in (c .args .setup) (c .args .pen) (c .pre)
+
+pattern-inside : (c : tie.Start) → c .args .setup .flow .pattern ≡ true → isInside (c .args .setup .pattern) (c .args .pen .pattern) ≡ true
+pattern-inside c = pattern-in (c .args .setup) (c .args .pen) (c .pre)
+
 return-used-requires : tie.Need-return-used-requires
-return-used-requires c κs = λ used. inside-x _ _ (c .before .before .pre .source used)
+return-used-requires c κs = λ used. inside-x _ _ (source-inside (c .before .before) used)
 
 turn-used-requires : tie.Need-turn-used-requires
-turn-used-requires c κs = λ used. inside-y _ _ (c .before .before .before .pre .source used)
+turn-used-requires c κs = λ used. inside-y _ _ (source-inside (c .before .before .before) used)
 
 return-used-requires-2 : tie.Need-return-used-requires-2
-return-used-requires-2 c κs = λ used. inside-x _ _ (c .before .before .before .before .pre .pattern used)
+return-used-requires-2 c κs = λ used. inside-x _ _ (pattern-inside (c .before .before .before .before) used)
 
 turn-used-requires-2 : tie.Need-turn-used-requires-2
-turn-used-requires-2 c κs = λ used. inside-y _ _ (c .before .before .before .before .before .pre .pattern used)
+turn-used-requires-2 c κs = λ used. inside-y _ _ (pattern-inside (c .before .before .before .before .before) used)
 
 return-by-requires : tie.Need-return-by-requires
 return-by-requires c κs = search needs

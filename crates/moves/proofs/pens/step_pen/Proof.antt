@@ -1,4 +1,6 @@
 -- `step_pen` is the definition, field by field: each call gives a part of its field, and a point of choices is the choice of points.
+use mathlib.Core.Path.{_≡_}
+use mathlib.Core.Bool.{true}
 use mir.Val.{SFits}
 use Rattle.moves.specs.declared.Step.{Step}
 use mir.Syntax.{w16, w32}
@@ -6,7 +8,9 @@ use mir.ValLaws.{toZ-ofZ}
 use Rattle.moves.specs.Turns.{pointStepped, spotStepped}
 use Rattle.moves.specs.Moves.{penStepped}
 use Rattle.moves.proofs.Choices.{choose-point}
+use Rattle.rules.specs.Maps.{isInside}
 use Rattle.rules.proofs.PointerLaws.{inside-x, inside-y}
+use Rattle.moves.proofs.Kept.{source-in, pattern-in}
 use borrow.Author.Needs.{needs}
 use Rattle.moves.proofs.pens.step_pen.Statement.{statement}
 use Rattle.moves.proofs.pens.step_pen.Tie as tie
@@ -18,17 +22,24 @@ across c = search (needs, c .struct-told .given)
 down : (c : tie.After-struct-told) → SFits w16 (c .before .before .before .before .before .before .args .pen .destination .y)
 down c = search (needs, c .struct-told .given)
 
+-- used pointers lie in their maps
+source-inside : (c : tie.Start) → c .args .setup .flow .source ≡ true → isInside (c .args .setup .source) (c .args .pen .source) ≡ true
+source-inside c = source-in (c .args .setup) (c .args .pen) (c .pre)
+
+pattern-inside : (c : tie.Start) → c .args .setup .flow .pattern ≡ true → isInside (c .args .setup .pattern) (c .args .pen .pattern) ≡ true
+pattern-inside c = pattern-in (c .args .setup) (c .args .pen) (c .pre)
+
 turn-used-requires : tie.Need-turn-used-requires
-turn-used-requires c κs = λ used. inside-x _ _ (c .before .pre .source used)
+turn-used-requires c κs = λ used. inside-x _ _ (source-inside (c .before) used)
 
 turn-used-requires-2 : tie.Need-turn-used-requires-2
-turn-used-requires-2 c κs = λ used. inside-y _ _ (c .before .before .pre .source used)
+turn-used-requires-2 c κs = λ used. inside-y _ _ (source-inside (c .before .before) used)
 
 turn-used-requires-3 : tie.Need-turn-used-requires-3
-turn-used-requires-3 c κs = λ used. inside-x _ _ (c .before .before .before .pre .pattern used)
+turn-used-requires-3 c κs = λ used. inside-x _ _ (pattern-inside (c .before .before .before) used)
 
 turn-used-requires-4 : tie.Need-turn-used-requires-4
-turn-used-requires-4 c κs = λ used. inside-y _ _ (c .before .before .before .before .pre .pattern used)
+turn-used-requires-4 c κs = λ used. inside-y _ _ (pattern-inside (c .before .before .before .before) used)
 
 circle-by-requires : tie.Need-circle-by-requires
 circle-by-requires c κs = search needs

@@ -1,4 +1,4 @@
--- `source_pixel` is the pixel at the source pointer, which lies in the memory where its map is used.
+-- `source_pixel` is the pixel at the source pointer, which lies in the memory where it is read.
 use mathlib.Core.Path.{sym, _∙_}
 use borrow.Author.Needs.{needs}
 use Rattle.numbers.proofs.Choices.{choose-true, choose-false}
@@ -7,19 +7,19 @@ use Rattle.position.specs.Inner.{sourceRead}
 use Rattle.position.proofs.drawn.source_pixel.Statement.{statement}
 use Rattle.position.proofs.drawn.source_pixel.Tie as tie
 
-uses-source-requires : tie.Need-uses-source-requires
-uses-source-requires c κs = search needs
+reads-source-requires : tie.Need-reads-source-requires
+reads-source-requires c κs = search needs
 
 get-requires : tie.Need-get-requires
-get-requires c κs = c .before .before .before .before .pre .source (sym (c .before .uses-source .ensures) ∙ c .if1 .taken)
+get-requires c κs = c .before .before .before .before .pre .source (sym (c .before .reads-source .ensures) ∙ c .if1 .taken)
 
 returns : tie.Need-returns
 unfolding sourcePixel sourceRead
-returns c = c .get .ensures ∙ sym (choose-true _ 0 (sym (c .before .before .uses-source .ensures) ∙ c .before .if1 .taken))
+returns c = c .get .ensures ∙ sym (choose-true _ 0 (sym (c .before .before .reads-source .ensures) ∙ c .before .if1 .taken))
 
 returns-2 : tie.Need-returns-2
 unfolding sourceRead
-returns-2 c = sym (choose-false _ 0 (sym (c .before .uses-source .ensures) ∙ c .if1 .left))
+returns-2 c = sym (choose-false _ 0 (sym (c .before .reads-source .ensures) ∙ c .if1 .left))
 
 pub source-pixel-spec : {M : Type 1} → statement M
-source-pixel-spec = tie.close (tie.spec uses-source-requires get-requires returns returns-2)
+source-pixel-spec = tie.close (tie.spec reads-source-requires get-requires returns returns-2)
