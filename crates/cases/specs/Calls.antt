@@ -3,7 +3,7 @@ use mathlib.Core.Path.{_≡_}
 use Prim.Native.Nat.{ℕ, zero, suc}
 use mathlib.Core.Bool.{Bool, true, false, not, _&&_}
 use mathlib.Core.List.{List, [], _∷_}
-use lib.ListN.{length}
+use lib.ListN.{length, set}
 use lib.Dec.{eqb}
 use Rattle.parts.specs.Refusals.{numberOf, isAccepted}
 use Rattle.coprocessor.specs.declared.Coprocessor.{Coprocessor}
@@ -29,6 +29,8 @@ pub data Call : Type 0 where
   run : (allowance done : ℕ) → Call
   -- the state saved into 115 bytes, and those loaded into a fresh coprocessor of this size, where the play goes on
   carried : (size : ℕ) → Call
+  -- the state saved into 115 bytes with one of them changed, and what a load of these answers; the play goes on with what it leaves
+  altered : (place byte number : ℕ) → Call
   -- a save into so many bytes that is refused with this number, and leaves them
   unsaved : (length number : ℕ) → Call
   -- a load of these bytes that is refused with this number
@@ -39,7 +41,7 @@ pub data Call : Type 0 where
   memory : (bytes : List ℕ) → Call
   -- the memory is no longer these bytes
   changed : (bytes : List ℕ) → Call
-  -- 01, State image: 9 state (0 idle, 1 drawing, 2 idle after stop)
+  -- 01, State image: 9 state (0 idle, 1 drawing, 2 idle after stop; 02, 102: 3 drawing and inside)
   state : (number : ℕ) → Call
 
 -- 01, Cases: the memory at first, and the calls in turn
@@ -92,6 +94,9 @@ answers (carried size ∷ calls) c bytes =
     isAccepted (saveRefusal c (zeros 115))
     && isAccepted (loadAnswer (freshAnswer size .coprocessor) (saved c (zeros 115)) .refusal)
     && answers calls (loadAnswer (freshAnswer size .coprocessor) (saved c (zeros 115)) .coprocessor) bytes
+answers (altered place byte number ∷ calls) c bytes =
+    eqb (numberOf (loadAnswer c (set (saved c (zeros 115)) place byte) .refusal)) number
+    && answers calls (loadAnswer c (set (saved c (zeros 115)) place byte) .coprocessor) bytes
 answers (unsaved length number ∷ calls) c bytes =
     eqb (numberOf (saveRefusal c (zeros length))) number
     && same (saved c (zeros length)) (zeros length)

@@ -1,7 +1,7 @@
 -- 01, Easy ways to draw it wrong, and other mistakes that somebody could make: a play for each that tells the right answer from the wrong one.
-use Prim.Native.Nat.{ℕ}
+use Prim.Native.Nat.{ℕ, _+_}
 use mathlib.Core.List.{List, [], _∷_, _++_}
-use Rattle.cases.specs.Calls.{Call, Play, zeros, write, refused, read, unread, run, carried, unsaved, unloaded, fresh, memory, state}
+use Rattle.cases.specs.Calls.{Call, Play, zeros, write, refused, read, unread, run, carried, altered, unsaved, unloaded, fresh, memory, state}
 use Rattle.cases.specs.Cases.{mapped, inked, codes}
 
 -- ---- drawings
@@ -118,6 +118,115 @@ onePosition =
           ∷ []);
     }
 
+-- ---- area boundaries and fills
+
+-- the line of case 4 in drawing mode 11, in this octant from this row on, over four by two bytes
+unfoldable pub boundary : (octant y : ℕ) → List Call
+boundary octant y =
+    mapped 1 0 3 1 3
+    ++ inked 3 0xFF 0xAA
+    ++ (write 0x20 4 0xFFFFFFFF ∷ write 0x24 4 2 ∷ write 0x28 4 0xFFFFFFFC
+    ∷ write 0x60 2 3
+    ∷ write 0x7A 2 y
+    ∷ write 0x7C 4 (0x05018030 + octant)
+    ∷ [])
+
+-- 003, Area Boundary Drawing: going down, the last of each horizontal run, and not the last position
+unfoldable pub boundaryDown : Play
+boundaryDown = record { bytes = zeros 8; calls = boundary 0 0 ++ (run 9 4 ∷ memory (0 ∷ 0xAA ∷ zeros 6) ∷ []) }
+
+-- 003, Area Boundary Drawing: going up, the first of each horizontal run, and not the first position
+unfoldable pub boundaryUp : Play
+boundaryUp = record { bytes = zeros 8; calls = boundary 2 1 ++ (run 9 4 ∷ memory (0 ∷ 0 ∷ 0xAA ∷ zeros 5) ∷ []) }
+
+-- 003, Area Boundary Drawing: a level line draws nothing
+unfoldable pub boundaryLevel : Play
+boundaryLevel =
+    record {
+      bytes = zeros 2;
+      calls = row 1 3 0xAA ++ (write 0x20 4 0xFFFFFFFF ∷ write 0x60 2 1 ∷ write 0x7C 4 0x05018030 ∷ run 9 2 ∷ memory (zeros 2) ∷ []);
+    }
+
+-- 003, Area Boundary Drawing: each code is a line of its own; up and down again both cross the upper row
+unfoldable pub boundaryCodes : Play
+boundaryCodes =
+    record {
+      bytes = zeros 2;
+      calls =
+          mapped 1 0 0 1 3
+          ++ inked 0x12 0xFF 1
+          ++ (write 0x7A 2 1 ∷ write 0x7C 4 0x04018030 ∷ write 0x2E 2 0xD151 ∷ run 9 4 ∷ memory (2 ∷ 0 ∷ []) ∷ []);
+    }
+
+-- 003, Area Outline Scissoring; docs/DIFFERENCES.md, D5: a crossing to the left of the map is drawn in column 0
+unfoldable pub boundaryLeft : Play
+boundaryLeft =
+    record {
+      bytes = zeros 2;
+      calls =
+          mapped 1 0 0 1 3
+          ++ inked 3 0xFF 0xAA
+          ++ (write 0x20 4 0xFFFFFFFF ∷ write 0x60 2 1
+          ∷ write 0x78 2 0xFFFF
+          ∷ write 0x7C 4 0x05018031
+          ∷ run 9 2
+          ∷ memory (0xAA ∷ 0 ∷ [])
+          ∷ []);
+    }
+
+-- a fill by the outline in the first byte, four pixels in a row, of as many bytes behind it; nothing is drawn outside
+unfoldable pub fill : (rows : ℕ) → List Call
+fill rows =
+    mapped 2 0 3 rows 0
+    ++ mapped 1 1 3 rows 3
+    ++ inked 3 0xFF 0xAA
+    ++ (write 0x49 1 5 ∷ write 0x60 2 3 ∷ write 0x62 2 rows ∷ write 0x7C 4 0x0A012000 ∷ [])
+
+-- 003, Area Fill: the opening pixel is filled and the closing one not; 02, 102: each row starts outside
+unfoldable pub filledByRows : Play
+filledByRows =
+    record {
+      bytes = 0x52 ∷ zeros 8;
+      calls = fill 1 ++ (run 9 8 ∷ memory (0x52 ∷ 0 ∷ 0xAA ∷ 0xAA ∷ 0xAA ∷ 0xAA ∷ 0xAA ∷ 0 ∷ 0 ∷ []) ∷ []);
+    }
+
+-- 003, Area Fill: the pattern may be the destination: each outline pixel is read before it is drawn over
+unfoldable pub filledInPlace : Play
+filledInPlace =
+    record {
+      bytes = 0x0A ∷ [];
+      calls = mapped 1 0 3 0 0 ++ inked 3 1 1 ++ (write 0x60 2 3 ∷ write 0x7C 4 0x0A011000 ∷ run 9 4 ∷ memory (0x06 ∷ []) ∷ []);
+    }
+
+-- 02, 102, point 3: a fill cut in mid row and carried to another coprocessor goes on inside
+unfoldable pub cutFill : Play
+cutFill =
+    record {
+      bytes = 0x0A ∷ zeros 4;
+      calls = fill 0 ++ (run 2 2 ∷ state 3 ∷ carried 64 ∷ state 3 ∷ run 9 2 ∷ memory (0x0A ∷ 0 ∷ 0xAA ∷ 0xAA ∷ 0 ∷ []) ∷ []);
+    }
+
+-- 02, 102, point 3: a line cut where it rose to another row, and carried, draws the first of the run there
+unfoldable pub cutBoundary : Play
+cutBoundary =
+    record { bytes = zeros 8; calls = boundary 2 1 ++ (run 2 2 ∷ carried 64 ∷ state 3 ∷ run 9 2 ∷ memory (0 ∷ 0 ∷ 0xAA ∷ zeros 5) ∷ []) }
+
+-- 02, 102: state 3 loads for a fill only in mid row
+unfoldable pub insideAtStart : Play
+insideAtStart = record { bytes = zeros 5; calls = fill 0 ++ (altered 9 3 10 ∷ run 1 1 ∷ altered 9 3 0 ∷ state 3 ∷ []) }
+
+-- 02, 102: and for a line in mode 11 only once a position is done, also for one that goes down, where the next step clears it
+unfoldable pub risenAtStart : Play
+risenAtStart =
+    record {
+      bytes = zeros 8;
+      calls = boundary 0 0 ++ (altered 9 3 10 ∷ run 1 1 ∷ altered 9 3 0 ∷ state 3 ∷ run 1 1 ∷ state 1 ∷ []);
+    }
+
+-- 02, 102: a fill to the left is refused, and so is one whose pattern is no map
+unfoldable pub fillRefused : Play
+fillRefused = record { bytes = zeros 1; calls = row 0 3 0xAA ++ (refused 0x7C 4 0x0A011004 5 ∷ refused 0x7C 4 0x0A018000 5 ∷ []) }
+
 -- ---- registers and starts
 
 -- 01, Numbers a call answers with: the lowest number, so an unfinished drawing before an unlisted byte; reads go on
@@ -196,6 +305,18 @@ mistakes =
     ∷ rowReturned
     ∷ errorReduced
     ∷ onePosition
+    ∷ boundaryDown
+    ∷ boundaryUp
+    ∷ boundaryLevel
+    ∷ boundaryCodes
+    ∷ boundaryLeft
+    ∷ filledByRows
+    ∷ filledInPlace
+    ∷ cutFill
+    ∷ cutBoundary
+    ∷ insideAtStart
+    ∷ risenAtStart
+    ∷ fillRefused
     ∷ lowestNumber
     ∷ unlistedByte
     ∷ codeZero

@@ -10,8 +10,8 @@ use Rattle.numbers.proofs.Choices.{asked, and-left, and-right}
 use Rattle.parts.specs.Drawings.{unfinished}
 use Rattle.parts.specs.Refusals.{isAccepted}
 use Rattle.parts.proofs.RefusalLaws.{passed}
-use Rattle.rules.specs.Operations.{sourceIsColour, usesSource, usesPattern, usesMask}
-use Rattle.rules.specs.Rules.{usedMaps, endsHold}
+use Rattle.rules.specs.Operations.{isFill, sourceIsColour, usesSource, usesPattern, usesMask}
+use Rattle.rules.specs.Rules.{fillHolds, fieldsHold, usedMaps, endsHold}
 use Rattle.rules.specs.Going.{countersHold, pointersHold}
 use Rattle.rules.proofs.RefusalLaws.{accepted-holds}
 use Rattle.moves.specs.Decoded.{flowOf}
@@ -35,16 +35,18 @@ valid-going c v going =
     record { counters = search (both, and-left, and-right); starts = search (both, and-left, and-right); pointers = search (both, and-left, and-right) }
 
 pub valid-safe : (c : Coprocessor) → validOf c ≡ true → unfinished (c .drawing) ≡ true → Safe (setupOf c) (c .size) (penOf c)
-unfolding startRefusalOf endsHold usedMaps usesMask usesSource sourceIsColour pointersHold setupOf penOf flowOf readsSource
+unfolding startRefusalOf fillHolds fieldsHold endsHold usedMaps usesMask usesSource sourceIsColour pointersHold setupOf penOf flowOf readsSource
 valid-safe c v going =
     let g = valid-going c v going in
     let ends = accepted-holds _ _ _ _ _ (g .starts) .ends in
+    let fields = accepted-holds _ _ _ _ _ (g .starts) .fields in
     record {
       destination = search (ends, and-left);
       mask = λ used. asked (usesMask (c .operations)) _ (search (ends, and-right)) (eq-eqb _ 2 used);
       source = λ used. asked (usesSource (c .operations)) _ (search (ends, and-left, and-right)) used;
       pattern = λ used. asked (usesPattern (c .operations)) _ (search (ends, and-left, and-right)) used;
       used = λ read. read;
+      crossing = λ fills. and-left (usesPattern (c .operations)) _ (asked (isFill (c .operations)) (fillHolds (c .operations)) (search (fields, and-right)) fills);
       pointers = g .pointers;
     }
 

@@ -1,6 +1,6 @@
 -- The state image: the record as 115 bytes, and the record that 115 bytes are.
 use Prim.Native.Nat.{ℕ}
-use mathlib.Core.Bool.{Bool, _&&_}
+use mathlib.Core.Bool.{Bool, not, _&&_, _||_}
 use mathlib.Core.List.{List}
 use lib.ListN.{length}
 use lib.Dec.{leb, eqb}
@@ -62,25 +62,26 @@ loaded b =
 unfoldable pub zeroCounters : List ℕ → Bool
 zeroCounters b = eqb (at 10 2 b) 0 && eqb (at 12 2 b) 0 && eqb (at 14 1 b) 0
 
--- 01, State image: for a function that draws, a position remains at the counters, and counters not of that function are zero (12 too for a line)
+-- 01, State image: for a function that draws, a position remains at the counters, and counters not of that function are zero (12 too for a line);
+-- 02, 102: state 3 is a line's or a fill's, by the rules of its bit
 unfoldable pub remains : ℕ → Point → ℕ → List ℕ → Bool
 remains operations dimensions steps b =
     choose (isLine operations)
-    (countersHold operations dimensions steps (Line (at 10 2 b)) && eqb (at 12 2 b) 0 && eqb (at 14 1 b) 0)
+    (countersHold operations dimensions steps (Line (eqb (at 9 1 b) 3) (at 10 2 b)) && eqb (at 12 2 b) 0 && eqb (at 14 1 b) 0)
     (choose (isCodes operations)
-    (countersHold operations dimensions steps (Codes (at 14 1 b) (at 12 2 b) (at 10 2 b)))
-    (countersHold operations dimensions steps (Block (at 10 2 b) (at 12 2 b)) && eqb (at 14 1 b) 0))
+    (countersHold operations dimensions steps (Codes (at 14 1 b) (at 12 2 b) (at 10 2 b)) && not (eqb (at 9 1 b) 3))
+    (countersHold operations dimensions steps (Block (eqb (at 9 1 b) 3) (at 10 2 b) (at 12 2 b)) && eqb (at 14 1 b) 0))
 
--- 01, State image: accepted exactly when mark and version hold, the size is within its limit, the state is 0, 1 or 2, and every reduction holds; in state 1 the start rules hold, a position remains, and used pointers lie in their maps; in the others bytes 10-14 are zero
+-- 01, State image: accepted exactly when mark and version hold, the size is within its limit, the state is 0, 1, 2 or 3 (02, 102), and every reduction holds; in states 1 and 3 the start rules hold, a position remains, and used pointers lie in their maps; in the others bytes 10-14 are zero
 unfoldable pub loads : List ℕ → Bool
 loads b =
     eqb (length b) 115
     && eqb (at 0 3 b) 0x534758
     && eqb (at 3 2 b) 1
     && sizeHolds (at 5 4 b)
-    && leb (at 9 1 b) 2
+    && leb (at 9 1 b) 3
     && reducedOf (loaded b)
-    && choose (eqb (at 9 1 b) 1)
+    && choose (eqb (at 9 1 b) 1 || eqb (at 9 1 b) 3)
     (isAccepted (startRefusalOf (loaded b))
     && remains (loaded b .operations) (loaded b .dimensions) (loaded b .steps) b
     && pointersHold (loaded b .operations) (loaded b .maps) (loaded b .source) (loaded b .pattern))

@@ -12,7 +12,7 @@ use Rattle.rules.specs.Operations.{sourceField, destinationField, patternField}
 use Rattle.rules.specs.Maps.{mapAt}
 use Rattle.moves.specs.declared.Setup.{Setup}
 use Rattle.moves.specs.declared.Pen.{Pen}
-use Rattle.moves.specs.Decoded.{courseOf, flowOf}
+use Rattle.moves.specs.Decoded.{courseOf, flowOf, edgeOf}
 use Rattle.runs.specs.Runs.{Run, begun, after}
 use Rattle.coprocessor.specs.declared.Coprocessor.{Coprocessor}
 use Rattle.coprocessor.specs.declared.Drawn.{Drawn}
@@ -37,6 +37,7 @@ setupOf c =
       steps = c .steps;
       k1 = c .terms .k1;
       k2 = c .terms .k2;
+      edge = edgeOf (c .operations);
     }
 
 -- docs/DECISIONS.md, 25: what it changes

@@ -5,6 +5,7 @@ use crate::Drawn;
 use moves::Pen;
 use moves::Setup;
 use moves::decoded::course_of;
+use moves::decoded::edge_of;
 use moves::decoded::flow_of;
 use parts::refusals::Refusal;
 use parts::refusals::accepts;
@@ -50,6 +51,7 @@ impl Coprocessor {
             steps: self.steps,
             k1: terms.k1,
             k2: terms.k2,
+            edge: edge_of(operations),
         }
     }
 

@@ -8,18 +8,18 @@ use Rattle.parts.specs.declared.drawing.Drawing.the-variants.{Nothing, Line, Co
 use Rattle.rules.specs.Operations.{isLine, isCodes}
 use Rattle.image.specs.declared.counters.Counters.{Counters}
 
--- 01, State image: 9 state (0 idle, 1 drawing, 2 idle after stop), 10 positions done in this row, line or code, 12 rows or codes done, 14 codes in the starting write; counters not of the function are zero
+-- 01, State image: 9 state (0 idle, 1 drawing, 2 idle after stop; 02, 102: 3 drawing and inside), 10 positions done in this row, line or code, 12 rows or codes done, 14 codes in the starting write; counters not of the function are zero
 unfoldable pub countersOf : Drawing → Counters
 countersOf (Nothing stopped) = record { state = choose stopped 2 0; done = 0; gone = 0; count = 0 }
-countersOf (Line done) = record { state = 1; done = done; gone = 0; count = 0 }
+countersOf (Line rose done) = record { state = choose rose 3 1; done = done; gone = 0; count = 0 }
 countersOf (Codes count code done) = record { state = 1; done = done; gone = code; count = count }
-countersOf (Block column row) = record { state = 1; done = column; gone = row; count = 0 }
+countersOf (Block inside column row) = record { state = choose inside 3 1; done = column; gone = row; count = 0 }
 
--- 01, State image: the drawing that these counters are, by the stored function; a state other than 0 and 2 is taken for 1
+-- 01, State image: the drawing that these counters are, by the stored function; a state other than 0, 2 and 3 is taken for 1
 unfoldable pub drawingOf : ℕ → Counters → Drawing
 drawingOf operations k =
     choose (eqb (k .state) 0) (Nothing false)
     (choose (eqb (k .state) 2) (Nothing true)
-    (choose (isLine operations) (Line (k .done))
+    (choose (isLine operations) (Line (eqb (k .state) 3) (k .done))
     (choose (isCodes operations) (Codes (k .count) (k .gone) (k .done))
-    (Block (k .done) (k .gone)))))
+    (Block (eqb (k .state) 3) (k .done) (k .gone)))))

@@ -15,7 +15,7 @@ pub struct Counters {
     pub count: u8,
 }
 
-// State 0 is idle, 1 drawing, 2 idle after a stop; counters not of the function are zero.
+// State 0 is idle, 1 drawing, 2 idle after a stop, 3 drawing and inside; counters not of the function are zero.
 pub fn counters_of(drawing: Drawing) -> Counters
     ensures { λ r. ⌜ r ≡ countersOf drawing ⌝ }
 {
@@ -26,8 +26,8 @@ pub fn counters_of(drawing: Drawing) -> Counters
             gone: 0,
             count: 0,
         },
-        Drawing::Line { done } => Counters {
-            state: 1,
+        Drawing::Line { done, rose } => Counters {
+            state: if rose { 3 } else { 1 },
             done,
             gone: 0,
             count: 0,
@@ -38,8 +38,12 @@ pub fn counters_of(drawing: Drawing) -> Counters
             gone: code,
             count,
         },
-        Drawing::Block { column, row } => Counters {
-            state: 1,
+        Drawing::Block {
+            column,
+            row,
+            inside,
+        } => Counters {
+            state: if inside { 3 } else { 1 },
             done: column,
             gone: row,
             count: 0,
@@ -58,7 +62,10 @@ pub fn drawing_of(operations: u32, k: Counters) -> Drawing
         return Drawing::Nothing { stopped: true };
     }
     if is_line(operations) {
-        return Drawing::Line { done: k.done };
+        return Drawing::Line {
+            done: k.done,
+            rose: k.state == 3,
+        };
     }
     if is_codes(operations) {
         return Drawing::Codes {
@@ -70,6 +77,7 @@ pub fn drawing_of(operations: u32, k: Counters) -> Drawing
     Drawing::Block {
         column: k.done,
         row: k.gone,
+        inside: k.state == 3,
     }
 }
 

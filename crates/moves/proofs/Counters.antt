@@ -1,11 +1,12 @@
 -- A move counts one position: which drawing is in hand after it follows from the drawing before, and at each of its three kinds the positions left are one fewer and the counters hold again.
-use mathlib.Core.Path.{_≡_, refl, ap, _∙_}
+use mathlib.Core.Path.{_≡_, refl, sym, ap, _∙_}
 use mathlib.Core.Logic.{⊎-elim}
-use mathlib.Core.Bool.{Bool, true, false, not}
+use mathlib.Core.Bool.{Bool, true, false, not, _&&_, _||_, false≢true}
 use Prim.Native.Nat.{ℕ, zero, suc, _+_, _-_, _*_, _%_, _≤_, _<_, zero-le}
 use native.Mathlib.Numerals.{add-one}
 use native.Mathlib.Omega.{arith}
-use lib.Dec.{ltb, eqb}
+use lib.Dec.{leb, ltb, eqb}
+use lib.IntN.{ℤ}
 use borrow.Author.Tests.{lt-ltb, le-ltb, le-leb, leb-true, ltb-true, eq-eqb, ne-eqb, eqb-false, not-true}
 use Rattle.numbers.specs.Choose.{choose}
 use Rattle.numbers.proofs.Order.{lt-or-le}
@@ -13,38 +14,44 @@ use Rattle.numbers.proofs.Choices.{by-lt, by-eq, and-left, and-right, and-both}
 use Rattle.parts.specs.declared.shapes.Point.{Point}
 use Rattle.parts.specs.declared.drawing.Drawing.{Drawing}
 use Rattle.parts.specs.declared.drawing.Drawing.the-variants.{Nothing, Line, Codes, Block}
+use Rattle.parts.specs.Drawings.{unfinished, withInside}
+use Rattle.rules.specs.Operations.{isFill, modeOf}
 use Rattle.rules.specs.Starts.{codeAt}
 use Rattle.rules.specs.Going.{noneStopped, countersHold}
 use Rattle.rules.specs.Totals.{codesFrom, leftOf}
+use Rattle.rules.proofs.CounterLaws.{line-held, line-holds, block-held, block-holds, idle-holds}
+use Rattle.moves.specs.declared.Course.{Course}
 use Rattle.moves.specs.declared.Setup.{Setup}
 use Rattle.moves.specs.declared.Pen.{Pen}
-use Rattle.moves.specs.Moves.{penStepped, penWith, penGone, lineMoved, codePassed, codesMoved, columnPassed, rowPassed, blockMoved, movedBy, moved}
+use Rattle.moves.specs.Decoded.{courseOf}
+use Rattle.moves.specs.Steps.{lineStep, goesUp}
+use Rattle.moves.specs.Moves.{penStepped, penWith, penGone, rises, lineMoved, codePassed, codesMoved, columnPassed, rowPassed, blockMoved, movedBy, moved}
 
 -- ---- the drawing after a position
 
--- the drawing after a position, from the dimensions, the codes and the drawing alone
-unfoldable pub drawingAfter : Point → ℕ → Drawing → Drawing
-drawingAfter dimensions steps (Nothing stopped) = Nothing stopped
-drawingAfter dimensions steps (Line done) = choose (ltb done (dimensions .x)) (Line (done + 1)) (Nothing false)
-drawingAfter dimensions steps (Codes count code done) =
+-- the drawing after a position, from the dimensions, the codes, whether the step sets a line's bit, and the drawing alone
+unfoldable pub drawingAfter : Point → ℕ → Bool → Drawing → Drawing
+drawingAfter dimensions steps rose (Nothing stopped) = Nothing stopped
+drawingAfter dimensions steps rose (Line before done) = choose (ltb done (dimensions .x)) (Line rose (done + 1)) (Nothing false)
+drawingAfter dimensions steps rose (Codes count code done) =
     choose (ltb done (codeAt steps count code % 16)) (Codes count code (done + 1)) (codePassed steps count code)
-drawingAfter dimensions steps (Block column row) =
-    choose (ltb column (dimensions .x)) (Block (column + 1) row)
-    (choose (ltb row (dimensions .y)) (Block 0 (row + 1)) (Nothing false))
+drawingAfter dimensions steps rose (Block inside column row) =
+    choose (ltb column (dimensions .x)) (Block inside (column + 1) row)
+    (choose (ltb row (dimensions .y)) (Block false 0 (row + 1)) (Nothing false))
 
-pub drawing-moved : (s : Setup) (pen : Pen) → moved s pen .drawing ≡ drawingAfter (s .dimensions) (s .steps) (pen .drawing)
+pub drawing-moved : (s : Setup) (pen : Pen) → moved s pen .drawing ≡ drawingAfter (s .dimensions) (s .steps) (rises s (pen .e)) (pen .drawing)
 unfolding moved movedBy lineMoved codesMoved blockMoved penGone penStepped penWith columnPassed rowPassed drawingAfter
 drawing-moved s pen = by (pen .drawing) refl
   where
-    by : (d : Drawing) → pen .drawing ≡ d → movedBy s d pen .drawing ≡ drawingAfter (s .dimensions) (s .steps) d
+    by : (d : Drawing) → pen .drawing ≡ d → movedBy s d pen .drawing ≡ drawingAfter (s .dimensions) (s .steps) (rises s (pen .e)) d
     by (Nothing stopped) e = e
-    by (Line done) e =
+    by (Line rose done) e =
         let last = s .dimensions .x in
         ⊎-elim (λ h. rw (lt-ltb done last h)) (λ h. rw (le-ltb done last h)) (lt-or-le done last)
     by (Codes count code done) e =
         let last = codeAt (s .steps) count code % 16 in
         ⊎-elim (λ h. rw (lt-ltb done last h)) (λ h. rw (le-ltb done last h)) (lt-or-le done last)
-    by (Block column row) e =
+    by (Block inside column row) e =
         let last = s .dimensions .x in
         ⊎-elim (λ h. rw (lt-ltb column last h)) (λ h. rw (le-ltb column last h)) (lt-or-le column last)
 
@@ -76,21 +83,31 @@ module _ (steps count : ℕ) where
       let split : count - code ≡ suc (count - (code + 1)) = omega arith in
       rw (split, ne-eqb (codeAt steps count code) 0 goes, add-one code)
 
-module _ (operations : ℕ) (dimensions : Point) (steps : ℕ) where
-  pub line-counted : (done : ℕ) → countersHold operations dimensions steps (Line done) ≡ true
-      → Counted operations dimensions steps (Line done) (drawingAfter dimensions steps (Line done))
-  unfolding leftOf countersHold drawingAfter
-  line-counted done h =
+-- a bit that is set only where the function has it, with a position done
+bit-held : (bit fits : Bool) (done : ℕ) → (bit ≡ true → fits ≡ true) → (not bit || (fits && leb 1 (done + 1))) ≡ true
+bit-held false fits done h = refl
+bit-held true fits done h = rw (h refl) (le-leb 1 (done + 1) (omega arith))
+
+module _ (operations : ℕ) (dimensions : Point) (steps : ℕ) (rose : Bool) (boundary : rose ≡ true → eqb (modeOf operations) 3 ≡ true) where
+  pub line-counted : (done : ℕ) (before : Bool) → countersHold operations dimensions steps (Line before done) ≡ true
+      → Counted operations dimensions steps (Line before done) (drawingAfter dimensions steps rose (Line before done))
+  unfolding leftOf drawingAfter
+  line-counted done before h =
       let last : ℕ = dimensions .x in
-      let within : done ≤ last = leb-true done last (search (and-left, and-right)) in
-      by-lt (Counted operations dimensions steps (Line done)) done last
+      let held = line-held operations dimensions steps done before h in
+      let within : done ≤ last = held .within in
+      by-lt (Counted operations dimensions steps (Line before done)) done last
       (λ less.
-      let next = le-leb (done + 1) last (omega arith) in
-      record { left = omega arith; held = search (and-both, and-left, and-right) })
-      (λ more. record { left = omega arith; held = refl })
+      record {
+        left = omega arith;
+        held =
+            line-holds operations dimensions steps (done + 1) rose
+            (record { function = held .function; within = omega arith; bit = bit-held rose (eqb (modeOf operations) 3) done boundary });
+      })
+      (λ more. record { left = omega arith; held = idle-holds operations dimensions steps false })
 
   pub codes-counted : (count code done : ℕ) → countersHold operations dimensions steps (Codes count code done) ≡ true
-      → Counted operations dimensions steps (Codes count code done) (drawingAfter dimensions steps (Codes count code done))
+      → Counted operations dimensions steps (Codes count code done) (drawingAfter dimensions steps rose (Codes count code done))
   unfolding leftOf countersHold noneStopped drawingAfter codePassed
   codes-counted count code done h =
       let last : ℕ = codeAt steps count code % 16 in
@@ -121,49 +138,60 @@ module _ (operations : ℕ) (dimensions : Point) (steps : ℕ) where
       let split : dimensions .y + 1 - row ≡ dimensions .y + 1 - (row + 1) + 1 = omega arith in
       ap (λ (n : ℕ). n * (dimensions .x + 1)) split ∙ omega arith
 
-  pub block-counted : (column row : ℕ) → countersHold operations dimensions steps (Block column row) ≡ true
-      → Counted operations dimensions steps (Block column row) (drawingAfter dimensions steps (Block column row))
-  unfolding leftOf countersHold drawingAfter
-  block-counted column row h =
-      let across : column ≤ dimensions .x = leb-true column (dimensions .x) (search (and-left, and-right)) in
-      let down : row ≤ dimensions .y = leb-true row (dimensions .y) (search (and-left, and-right)) in
+  -- also where a fill's bit was turned at the position
+  pub block-counted : (column row : ℕ) (before inside : Bool) → countersHold operations dimensions steps (Block before column row) ≡ true
+      → (inside ≡ true → isFill operations ≡ true)
+      → Counted operations dimensions steps (Block before column row) (drawingAfter dimensions steps rose (Block inside column row))
+  unfolding leftOf drawingAfter
+  block-counted column row before inside h fills =
+      let held = block-held operations dimensions steps column row before h in
+      let across : column ≤ dimensions .x = held .across in
+      let down : row ≤ dimensions .y = held .down in
       let rest = rows row down in
-      by-lt (Counted operations dimensions steps (Block column row)) column (dimensions .x)
+      by-lt (Counted operations dimensions steps (Block before column row)) column (dimensions .x)
       (λ less.
-      let next = le-leb (column + 1) (dimensions .x) (omega arith) in
-      record { left = omega arith; held = search (and-both, and-left, and-right) })
-      (λ more. by-lt (Counted operations dimensions steps (Block column row)) row (dimensions .y)
+      record {
+        left = omega arith;
+        held =
+            block-holds operations dimensions steps (column + 1) row inside
+            (record { function = held .function; across = omega arith; down = down; bit = bit-held inside (isFill operations) column fills });
+      })
+      (λ more. by-lt (Counted operations dimensions steps (Block before column row)) row (dimensions .y)
       (λ another.
-      let first = le-leb 0 (dimensions .x) zero-le in
-      let next = le-leb (row + 1) (dimensions .y) (omega arith) in
-      record { left = omega arith; held = search (and-both, and-left, and-right) })
+      record {
+        left = omega arith;
+        held =
+            block-holds operations dimensions steps 0 (row + 1) false
+            (record { function = held .function; across = zero-le; down = omega arith; bit = refl });
+      })
       (λ past.
       let none : dimensions .y + 1 - (row + 1) ≡ 0 = omega arith in
-      record { left = omega (arith, ap (λ (n : ℕ). n * (dimensions .x + 1)) none); held = refl }))
+      record { left = omega (arith, ap (λ (n : ℕ). n * (dimensions .x + 1)) none); held = idle-holds operations dimensions steps false }))
 
-  pub counted : (d : Drawing) → countersHold operations dimensions steps d ≡ true → ((stopped : Bool) → d ≡ Nothing stopped → ⊥)
-      → Counted operations dimensions steps d (drawingAfter dimensions steps d)
-  counted (Nothing stopped) h some = absurd (some stopped refl)
-  counted (Line done) h some = line-counted done h
-  counted (Codes count code done) h some = codes-counted count code done h
-  counted (Block column row) h some = block-counted column row h
-
-  counters-after : (d : Drawing) → countersHold operations dimensions steps d ≡ true → countersHold operations dimensions steps (drawingAfter dimensions steps d) ≡ true
-  unfolding drawingAfter
-  counters-after (Nothing stopped) h = h
-  counters-after (Line done) h = line-counted done h .held
-  counters-after (Codes count code done) h = codes-counted count code done h .held
-  counters-after (Block column row) h = block-counted column row h .held
+  pub counted : (d : Drawing) (inside : Bool) → countersHold operations dimensions steps d ≡ true → (inside ≡ true → isFill operations ≡ true)
+      → unfinished d ≡ true
+      → Counted operations dimensions steps d (drawingAfter dimensions steps rose (withInside inside d))
+  unfolding withInside
+  counted (Nothing stopped) inside h fills some = absurd (false≢true some)
+  counted (Line before done) inside h fills some = line-counted done before h
+  counted (Codes count code done) inside h fills some = codes-counted count code done h
+  counted (Block before column row) inside h fills some = block-counted column row before inside h fills
 
 -- ---- a move of any kind
 
-pub left-moved : (operations : ℕ) (s : Setup) (pen : Pen) → countersHold operations (s .dimensions) (s .steps) (pen .drawing) ≡ true
-    → ((stopped : Bool) → pen .drawing ≡ Nothing stopped → ⊥)
-    → leftOf (s .dimensions) (s .steps) (moved s pen .drawing) + 1 ≡ leftOf (s .dimensions) (s .steps) (pen .drawing)
-left-moved operations s pen h some =
-    rw (drawing-moved s pen) (counted operations (s .dimensions) (s .steps) (pen .drawing) h some .left)
+-- a line's bit is set only in mode 11
+rises-boundary : (operations : ℕ) (s : Setup) (e : ℤ) → s .course ≡ courseOf operations → rises s e ≡ true → eqb (modeOf operations) 3 ≡ true
+unfolding rises courseOf
+rises-boundary operations s e fits h =
+    ap (λ (k : Course). k .bounds) (sym fits) ∙ and-left (s .course .bounds) (goesUp (lineStep (s .course) e .y)) h
 
-pub counters-moved : (operations : ℕ) (s : Setup) (pen : Pen) → countersHold operations (s .dimensions) (s .steps) (pen .drawing) ≡ true
-    → countersHold operations (s .dimensions) (s .steps) (moved s pen .drawing) ≡ true
-counters-moved operations s pen h =
-    rw (drawing-moved s pen) (counters-after operations (s .dimensions) (s .steps) (pen .drawing) h)
+-- the move of a drawing in hand, whose bit may have been turned at the position
+pub moved-counted : (operations : ℕ) (s : Setup) (pen : Pen) (inside : Bool) → s .course ≡ courseOf operations
+    → countersHold operations (s .dimensions) (s .steps) (pen .drawing) ≡ true
+    → (inside ≡ true → isFill operations ≡ true)
+    → unfinished (pen .drawing) ≡ true
+    → Counted operations (s .dimensions) (s .steps) (pen .drawing) (moved s (penWith (withInside inside (pen .drawing)) pen) .drawing)
+unfolding penWith
+moved-counted operations s pen inside fits h fills going =
+    rw (drawing-moved s (penWith (withInside inside (pen .drawing)) pen))
+    (counted operations (s .dimensions) (s .steps) (rises s (pen .e)) (rises-boundary operations s (pen .e) fits) (pen .drawing) inside h fills going)

@@ -10,14 +10,14 @@ use Rattle.parts.specs.declared.shapes.Point.{Point}
 use Rattle.parts.specs.declared.shapes.Spot.{Spot}
 use Rattle.parts.specs.declared.drawing.Drawing.{Drawing}
 use Rattle.parts.specs.declared.drawing.Drawing.the-variants.{Nothing, Line, Codes, Block}
-use Rattle.rules.specs.Operations.{isMap, sourceIsColour, usesSource, usesPattern}
+use Rattle.rules.specs.Operations.{isFill, isBlock, modeOf, isMap, sourceIsColour, usesSource, usesPattern}
 use Rattle.rules.specs.Starts.{codeAt}
 use Rattle.moves.specs.declared.Setup.{Setup}
 use Rattle.moves.specs.declared.Pen.{Pen}
 use Rattle.moves.specs.Turns.{opposite, turnedBy, circledBy, pointStepped, spotStepped}
-use Rattle.moves.specs.Decoded.{signOf, courseOf, flowOf}
-use Rattle.moves.specs.Steps.{lineStep, codeStep}
-use Rattle.moves.specs.Moves.{sourceBy, destinationBy, penStepped, penWith, penGone, lineError, lineMoved, codePassed, codesMoved, columnPassed, rowPoint, rowSpot, rowPassed, blockMoved, movedBy, moved}
+use Rattle.moves.specs.Decoded.{signOf, courseOf, flowOf, edgeOf}
+use Rattle.moves.specs.Steps.{lineStep, codeStep, goesUp}
+use Rattle.moves.specs.Moves.{sourceBy, destinationBy, penStepped, penWith, penGone, lineError, rises, lineMoved, codePassed, codesMoved, columnPassed, rowPoint, rowSpot, rowPassed, blockMoved, movedBy, moved}
 use Rattle.moves.proofs.TurnLaws.{repeated}
 
 -- a map of 8 by 8 pixels
@@ -43,6 +43,7 @@ setup operations dimensions steps k1 k2 =
       steps = steps;
       k1 = k1;
       k2 = k2;
+      edge = edgeOf operations;
     }
 
 -- a pen with the source at one place and the destination at another
@@ -56,28 +57,28 @@ penAt source destination e drawing =
 abbrev line : ℕ → Pen
 line n =
     repeated (moved (setup 0x05018000 (record { x = 3; y = 0 }) 0 (pos 2) (negsuc 3))) n
-    (penAt (record { x = 0; y = 0 }) (record { x = pos 0; y = pos 0 }) (negsuc 0) (Line 0))
+    (penAt (record { x = 0; y = 0 }) (record { x = pos 0; y = pos 0 }) (negsuc 0) (Line false 0))
 
 -- it goes by (1,0) and (2,1) to (3,1); E ends -1
 pub case4 : (line 1 .destination ≡ record { x = pos 1; y = pos 0 })
     × (line 2 .destination ≡ record { x = pos 2; y = pos 1 })
     × (line 3 .destination ≡ record { x = pos 3; y = pos 1 })
     × (line 4 ≡ penAt (record { x = 0; y = 0 }) (record { x = pos 3; y = pos 1 }) (negsuc 0) (Nothing false))
-unfolding repeated forth back residue circle isMap sourceIsColour usesSource usesPattern opposite turnedBy circledBy pointStepped spotStepped signOf courseOf flowOf lineStep sourceBy destinationBy penStepped penWith penGone lineError lineMoved movedBy moved
+unfolding repeated isFill isBlock modeOf forth back residue circle isMap sourceIsColour usesSource usesPattern opposite turnedBy circledBy pointStepped spotStepped signOf courseOf flowOf edgeOf lineStep goesUp sourceBy destinationBy penStepped penWith penGone lineError rises lineMoved movedBy moved
 case4 = (refl, refl, refl, refl)
 
 -- docs/DIFFERENCES.md, D3: a read form steps source and pattern by the line, and the destination's X by +1
 abbrev reading : ℕ → Pen
 reading n =
     repeated (moved (setup 0x23111002 (record { x = 3; y = 0 }) 0 (pos 2) (negsuc 3))) n
-    (penAt (record { x = 6; y = 0 }) (record { x = pos 6143; y = pos 0 }) (pos 0) (Line 0))
+    (penAt (record { x = 6; y = 0 }) (record { x = pos 6143; y = pos 0 }) (pos 0) (Line false 0))
 
 -- source and pattern go up past their maps' edges and come in at the other, and the destination from 6,143 to -2,048
 pub read-line : (reading 1 .source ≡ record { x = 7; y = 7 })
     × (reading 2 .source ≡ record { x = 0; y = 7 })
     × (reading 1 .pattern ≡ record { x = 1; y = 7 })
     × (reading 1 .destination ≡ record { x = negsuc 2047; y = pos 0 })
-unfolding repeated forth back residue circle isMap sourceIsColour usesSource usesPattern opposite turnedBy circledBy pointStepped spotStepped signOf courseOf flowOf lineStep sourceBy destinationBy penStepped penWith penGone lineError lineMoved movedBy moved
+unfolding repeated isFill isBlock modeOf forth back residue circle isMap sourceIsColour usesSource usesPattern opposite turnedBy circledBy pointStepped spotStepped signOf courseOf flowOf edgeOf lineStep goesUp sourceBy destinationBy penStepped penWith penGone lineError rises lineMoved movedBy moved
 read-line = (refl, refl, refl, refl)
 
 -- ---- codes
@@ -95,7 +96,7 @@ ended destination drawing = penAt (record { x = 0; y = 0 }) destination (pos 0) 
 pub case678 : (run 1 0x35000000 6 ≡ ended (record { x = pos 22; y = pos 5 }) (Nothing false))
     × (run 4 0xFFFF0035 6 ≡ ended (record { x = pos 22; y = pos 5 }) (Nothing true))
     × (run 1 0x20000000 1 ≡ ended (record { x = pos 17; y = pos 10 }) (Nothing false))
-unfolding repeated byteOf forth back residue circle isMap sourceIsColour usesSource usesPattern codeAt opposite turnedBy circledBy pointStepped spotStepped signOf courseOf flowOf codeStep sourceBy destinationBy penStepped penWith penGone codePassed codesMoved movedBy moved
+unfolding repeated isFill isBlock modeOf byteOf forth back residue circle isMap sourceIsColour usesSource usesPattern codeAt opposite turnedBy circledBy pointStepped spotStepped signOf courseOf flowOf edgeOf codeStep sourceBy destinationBy penStepped penWith penGone codePassed codesMoved movedBy moved
 case678 = (refl, refl, refl)
 
 -- ---- blocks
@@ -104,11 +105,11 @@ case678 = (refl, refl, refl)
 abbrev inverted : ℕ → Pen
 inverted n =
     repeated (moved (setup 0x29118000 (record { x = 1; y = 1 }) 0 (pos 0) (pos 0))) n
-    (penAt (record { x = 7; y = 0 }) (record { x = pos 0; y = pos 0 }) (pos 0) (Block 0 0))
+    (penAt (record { x = 7; y = 0 }) (record { x = pos 0; y = pos 0 }) (pos 0) (Block false 0 0))
 
 -- the source wraps within the row, returns at its end and goes down, and the destination goes up
-pub block : (inverted 1 ≡ penAt (record { x = 0; y = 0 }) (record { x = pos 1; y = pos 0 }) (pos 0) (Block 1 0))
-    × (inverted 2 ≡ penAt (record { x = 7; y = 1 }) (record { x = pos 0; y = negsuc 0 }) (pos 0) (Block 0 1))
+pub block : (inverted 1 ≡ penAt (record { x = 0; y = 0 }) (record { x = pos 1; y = pos 0 }) (pos 0) (Block false 1 0))
+    × (inverted 2 ≡ penAt (record { x = 7; y = 1 }) (record { x = pos 0; y = negsuc 0 }) (pos 0) (Block false 0 1))
     × (inverted 4 ≡ penAt (record { x = 7; y = 2 }) (record { x = pos 0; y = negsuc 1 }) (pos 0) (Nothing false))
-unfolding repeated forth back residue circle isMap sourceIsColour usesSource usesPattern opposite turnedBy circledBy pointStepped spotStepped signOf courseOf flowOf penStepped columnPassed rowPoint rowSpot rowPassed blockMoved movedBy moved
+unfolding repeated isFill isBlock modeOf forth back residue circle isMap sourceIsColour usesSource usesPattern opposite turnedBy circledBy pointStepped spotStepped signOf courseOf flowOf edgeOf penStepped columnPassed rowPoint rowSpot rowPassed blockMoved movedBy moved
 block = (refl, refl, refl)

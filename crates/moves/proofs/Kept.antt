@@ -41,10 +41,10 @@ module _ (s : Setup) (P : Pen → Type 0)
     where
       by : (d : Drawing) → P (movedBy s d pen)
       by (Nothing stopped) = h
-      by (Line done) = by-lt P done (s .dimensions .x) (λ less. step _ _ _ _ pen (inr refl) h) (λ more. pass _ pen h)
+      by (Line rose done) = by-lt P done (s .dimensions .x) (λ less. step _ _ _ _ pen (inr refl) h) (λ more. pass _ pen h)
       by (Codes count code done) =
           by-lt P done (codeAt (s .steps) count code % 16) (λ less. step _ _ _ _ pen (inl refl) h) (λ more. pass _ pen h)
-      by (Block column across) = by-lt P column (s .dimensions .x) (λ less. step _ _ _ _ pen (inl refl) h) (λ more. row _ pen h)
+      by (Block inside column across) = by-lt P column (s .dimensions .x) (λ less. step _ _ _ _ pen (inl refl) h) (λ more. row _ pen h)
 
 -- ---- pointers inside their maps
 

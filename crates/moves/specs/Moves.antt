@@ -1,6 +1,6 @@
 -- The move to the next position, the end of a row, and the passage to the next code or to a stop.
 use Prim.Native.Nat.{ℕ, _+_, _%_}
-use mathlib.Core.Bool.{true, false}
+use mathlib.Core.Bool.{Bool, true, false, _&&_}
 use lib.Dec.{ltb, eqb}
 use lib.IntN.{ℤ, pos, _+ℤ_}
 use lib.Signed.{ltZ}
@@ -18,7 +18,7 @@ use Rattle.moves.specs.declared.Course.{Course}
 use Rattle.moves.specs.declared.Setup.{Setup}
 use Rattle.moves.specs.declared.Pen.{Pen}
 use Rattle.moves.specs.Turns.{opposite, turnedBy, circledBy, pointStepped, spotStepped}
-use Rattle.moves.specs.Steps.{lineStep, codeStep}
+use Rattle.moves.specs.Steps.{lineStep, codeStep, goesUp}
 
 -- 01, The functions: X by +1
 abbrev pub right : Step
@@ -56,11 +56,15 @@ penGone s step e drawing pen = penStepped s (sourceBy (s .course) step) (destina
 unfoldable pub lineError : Setup → ℤ → ℤ
 lineError s e = circle 8192 16384 (e +ℤ choose (ltZ e (pos 0)) (s .k1) (s .k2))
 
+-- 02, 102: a step in Y of a mode 11 line that goes up sets the line's bit, and any other step clears it
+unfoldable pub rises : Setup → ℤ → Bool
+rises s e = s .course .bounds && goesUp (lineStep (s .course) e .y)
+
 -- 01, The functions, Line: no step follows the last position
 unfoldable pub lineMoved : Setup → ℕ → Pen → Pen
 lineMoved s done pen =
     choose (ltb done (s .dimensions .x))
-    (penGone s (lineStep (s .course) (pen .e)) (lineError s (pen .e)) (Line (done + 1)) pen)
+    (penGone s (lineStep (s .course) (pen .e)) (lineError s (pen .e)) (Line (rises s (pen .e)) (done + 1)) pen)
     (penWith (Nothing false) pen)
 
 -- 01, The functions, Codes: after a code's last position comes the next code, a stop at 00, or the end of the write's codes
@@ -109,18 +113,18 @@ rowPassed s drawing pen =
       drawing = drawing;
     }
 
--- 01, The functions, PxBlt: positions by rows; at each row's end X returns and Y steps, after the last too
-unfoldable pub blockMoved : Setup → ℕ → ℕ → Pen → Pen
-blockMoved s column row pen =
-    choose (ltb column (s .dimensions .x)) (columnPassed s (Block (column + 1) row) pen)
-    (rowPassed s (choose (ltb row (s .dimensions .y)) (Block 0 (row + 1)) (Nothing false)) pen)
+-- 01, The functions, PxBlt: positions by rows; at each row's end X returns and Y steps, after the last too; 02, 102: each row of a fill starts outside
+unfoldable pub blockMoved : Setup → ℕ → ℕ → Bool → Pen → Pen
+blockMoved s column row inside pen =
+    choose (ltb column (s .dimensions .x)) (columnPassed s (Block inside (column + 1) row) pen)
+    (rowPassed s (choose (ltb row (s .dimensions .y)) (Block false 0 (row + 1)) (Nothing false)) pen)
 
 -- 01, The functions: the pen after this position
 unfoldable pub movedBy : Setup → Drawing → Pen → Pen
 movedBy s (Nothing stopped) pen = pen
-movedBy s (Line done) pen = lineMoved s done pen
+movedBy s (Line rose done) pen = lineMoved s done pen
 movedBy s (Codes count code done) pen = codesMoved s count code done pen
-movedBy s (Block column row) pen = blockMoved s column row pen
+movedBy s (Block inside column row) pen = blockMoved s column row inside pen
 
 -- 01, The functions: the move is part of the position before it
 unfoldable pub moved : Setup → Pen → Pen

@@ -1,10 +1,12 @@
 -- Which way a position steps: lines by their octant and E, codes by their direction.
 use Prim.Native.Nat.{ℕ, _/_, _^_}
+use mathlib.Core.Bool.{Bool, true, false}
 use mathlib.Core.List.{[], _∷_}
 use lib.IntN.{ℤ, pos}
 use lib.Signed.{ltZ}
 use lib.ListN.{getD}
 use Rattle.numbers.specs.Choose.{choose}
+use Rattle.moves.specs.declared.Turn.{Turn}
 use Rattle.moves.specs.declared.Turn.the-variants.{Stay, Forth, Back}
 use Rattle.moves.specs.declared.Step.{Step}
 use Rattle.moves.specs.declared.Course.{Course}
@@ -31,3 +33,15 @@ codeStep code =
     ∷ [])
     (code / 2 ^ 5)
     (record { x = Stay; y = Stay })
+
+-- 01, The functions: whether a step's part in Y moves it
+unfoldable pub movesRow : Turn → Bool
+movesRow Stay = false
+movesRow Forth = true
+movesRow Back = true
+
+-- 01, The functions: whether it moves it up, which lowers Y
+unfoldable pub goesUp : Turn → Bool
+goesUp Stay = false
+goesUp Forth = false
+goesUp Back = true

@@ -1,15 +1,16 @@
 ghost use mathlib.Core.Path.{_≡_};
 ghost use mathlib.Core.Bool.{_||_};
 ghost use lib.Dec.{eqb};
-ghost use Rattle.moves.specs.Decoded.{signOf, courseOf, flowOf};
+ghost use Rattle.moves.specs.Decoded.{signOf, courseOf, flowOf, edgeOf};
 use crate::Course;
 use crate::Flow;
 use crate::Turn;
 use rules::operations::background_source;
-use rules::operations::drawing_mode;
 use rules::operations::foreground_source;
 use rules::operations::function_of;
+use rules::operations::is_fill;
 use rules::operations::mask_mode;
+use rules::operations::mode_of;
 use rules::operations::octant_of;
 use rules::operations::pattern_field;
 use rules::operations::uses_pattern;
@@ -41,10 +42,11 @@ pub fn course_of(operations: u32) -> Course
         steep: octant % 2 == 1,
         read: is_read(function),
         inverts: function == 9,
+        bounds: mode_of(operations) == 3,
     }
 }
 
-// Which maps a drawing uses, where its colours come from, and its modes.
+// Which maps a drawing uses, where its colours come from, its modes, and whether it fills an area.
 pub fn flow_of(operations: u32) -> Flow
     ensures { λ r. ⌜ r ≡ flowOf operations ⌝ }
 {
@@ -55,6 +57,14 @@ pub fn flow_of(operations: u32) -> Flow
         foreground: foreground_source(operations) == 2,
         background: background_source(operations) == 2,
         mask: mask_mode(operations) as u8,
-        nulls: drawing_mode(operations) as u8,
+        mode: mode_of(operations) as u8,
+        fills: is_fill(operations),
     }
+}
+
+// The lowest X that a destination counts as: column 0 where an area boundary is drawn, and otherwise any.
+pub fn edge_of(operations: u32) -> i16
+    ensures { λ r. ⌜ r ≡ edgeOf operations ⌝ }
+{
+    if mode_of(operations) == 3 { 0 } else { -2048 }
 }

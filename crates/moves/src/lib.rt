@@ -26,16 +26,18 @@ pub struct Step {
     pub y: Turn,
 }
 
-// Which way a drawing goes: the octant's signs, whether Y is the major axis, whether it is a read form, whether it inverts.
+// Which way a drawing goes: the octant's signs, whether Y is the major axis, whether it is a read form, whether it inverts, and
+// whether it draws an area boundary.
 pub struct Course {
     pub x: Turn,
     pub y: Turn,
     pub steep: bool,
     pub read: bool,
     pub inverts: bool,
+    pub bounds: bool,
 }
 
-// Which maps a drawing uses, where its colours come from, and its mask and drawing modes.
+// Which maps a drawing uses, where its colours come from, its mask and drawing modes, and whether it fills an area.
 pub struct Flow {
     pub source: bool,
     pub pattern: bool,
@@ -43,7 +45,8 @@ pub struct Flow {
     pub foreground: bool,
     pub background: bool,
     pub mask: u8,
-    pub nulls: u8,
+    pub mode: u8,
+    pub fills: bool,
 }
 
 // How the pen comes to the next position: along a step, over a row's end, or not at all; and the drawing in hand there.
@@ -65,7 +68,8 @@ pub enum Way {
     },
 }
 
-// What a drawing does not change, decoded once: the maps that it uses, and the registers that it reads.
+// What a drawing does not change, decoded once: the maps that it uses, the registers that it reads, and the lowest X that its
+// destination counts as.
 pub struct Setup {
     pub course: Course,
     pub flow: Flow,
@@ -82,6 +86,7 @@ pub struct Setup {
     pub steps: u32,
     pub k1: i32,
     pub k2: i32,
+    pub edge: i16,
 }
 
 // What a drawing changes beside memory.

@@ -1,6 +1,7 @@
 ghost use mathlib.Core.Path.{_≡_};
 ghost use mathlib.Core.Bool.{true};
-ghost use Rattle.moves.specs.Moves.{moved};
+ghost use Rattle.parts.specs.Drawings.{withInside};
+ghost use Rattle.moves.specs.Moves.{penWith, moved};
 ghost use Rattle.moves.specs.Inner.{pointersInside};
 use crate::Pen;
 use crate::Setup;
@@ -10,13 +11,13 @@ use crate::pens::pen_with;
 use crate::pens::step_pen;
 use crate::ways::way_of;
 
-// The pen after this position, whose used pointers lie in their maps; with nothing in hand it stays. The ways of all drawings meet here, so that a loop over
+// The pen after this position, where a fill is inside or not; its used pointers lie in their maps, and with nothing in hand it stays. The ways of all drawings meet here, so that a loop over
 // positions has one step in it and copies no set-up to take it.
-pub fn next(setup: Setup, pen: Pen) -> Pen
+pub fn next(setup: Setup, inside: bool, pen: Pen) -> Pen
     requires { ⌜ pointersInside setup pen ≡ true ⌝ }
-    ensures { λ r. ⌜ r ≡ moved setup pen ⌝ }
+    ensures { λ r. ⌜ r ≡ moved setup (penWith (withInside inside (pen .drawing)) pen) ⌝ }
 {
-    let way = way_of(setup, pen);
+    let way = way_of(setup, inside, pen);
     match way {
         Way::Along {
             from_x,

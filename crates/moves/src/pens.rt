@@ -41,14 +41,23 @@ pub(crate) fn step_pen(
     ensures { λ r.
         ⌜ r ≡ defined.penStepped setup (record { x = «from_x»; y = «from_y» }) (record { x = «to_x»; y = «to_y» }) e drawing pen ⌝ }
 {
-    let flow = setup.flow;
     let source = Point {
-        x: turn_used(flow.source, from_x, setup.source.width, pen.source.x),
-        y: turn_used(flow.source, from_y, setup.source.height, pen.source.y),
+        x: turn_used(setup.flow.source, from_x, setup.source.width, pen.source.x),
+        y: turn_used(setup.flow.source, from_y, setup.source.height, pen.source.y),
     };
     let pattern = Point {
-        x: turn_used(flow.pattern, from_x, setup.pattern.width, pen.pattern.x),
-        y: turn_used(flow.pattern, from_y, setup.pattern.height, pen.pattern.y),
+        x: turn_used(
+            setup.flow.pattern,
+            from_x,
+            setup.pattern.width,
+            pen.pattern.x,
+        ),
+        y: turn_used(
+            setup.flow.pattern,
+            from_y,
+            setup.pattern.height,
+            pen.pattern.y,
+        ),
     };
     let destination = Spot {
         x: circle_by(to_x, 1, pen.destination.x),
@@ -125,16 +134,25 @@ pub(crate) fn pass_row(setup: Setup, drawing: Drawing, pen: Pen) -> Pen
     requires { ⌜ pointersInside setup pen ≡ true ⌝ }
     ensures { λ r. ⌜ r ≡ defined.rowPassed setup drawing pen ⌝ }
 {
-    let flow = setup.flow;
     let course = setup.course;
     let down = course.y;
     let source = Point {
-        x: return_used(flow.source, setup, setup.source.width, pen.source.x),
-        y: turn_used(flow.source, down, setup.source.height, pen.source.y),
+        x: return_used(setup.flow.source, setup, setup.source.width, pen.source.x),
+        y: turn_used(setup.flow.source, down, setup.source.height, pen.source.y),
     };
     let pattern = Point {
-        x: return_used(flow.pattern, setup, setup.pattern.width, pen.pattern.x),
-        y: turn_used(flow.pattern, down, setup.pattern.height, pen.pattern.y),
+        x: return_used(
+            setup.flow.pattern,
+            setup,
+            setup.pattern.width,
+            pen.pattern.x,
+        ),
+        y: turn_used(
+            setup.flow.pattern,
+            down,
+            setup.pattern.height,
+            pen.pattern.y,
+        ),
     };
     let destination = Spot {
         x: return_by(setup, pen.destination.x),

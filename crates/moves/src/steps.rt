@@ -2,7 +2,7 @@ ghost use mathlib.Core.Path.{_≡_};
 ghost use Prim.Native.Nat.{_%_};
 ghost use lib.Dec.{ltb, eqb};
 ghost use Rattle.numbers.specs.Choose.{choose};
-ghost use Rattle.moves.specs.Steps.{lineStep, codeStep};
+ghost use Rattle.moves.specs.Steps.{lineStep, codeStep, movesRow, goesUp};
 use crate::Course;
 use crate::Step;
 use crate::Turn;
@@ -45,5 +45,27 @@ pub fn code_step(code: u8) -> Step
     Step {
         x: turn_of((direction + 6) % 8),
         y: turn_of(direction),
+    }
+}
+
+// Whether a step's part in Y moves it.
+pub fn moves_row(turn: Turn) -> bool
+    ensures { λ r. ⌜ r ≡ movesRow turn ⌝ }
+{
+    match turn {
+        Turn::Stay => false,
+        Turn::Forth => true,
+        Turn::Back => true,
+    }
+}
+
+// Whether it moves it up.
+pub fn goes_up(turn: Turn) -> bool
+    ensures { λ r. ⌜ r ≡ goesUp turn ⌝ }
+{
+    match turn {
+        Turn::Stay => false,
+        Turn::Forth => false,
+        Turn::Back => true,
     }
 }

@@ -3,6 +3,7 @@ ghost use mathlib.Core.Bool.{false};
 ghost use Prim.Native.Nat.{_+_};
 ghost use lib.Dec.{ltb};
 ghost use Rattle.numbers.specs.Choose.{choose};
+ghost use Rattle.parts.specs.Drawings.{withInside};
 ghost use Rattle.moves.specs.Moves as defined;
 ghost use Rattle.moves.specs.Inner.{gone};
 use crate::Course;
@@ -12,6 +13,7 @@ use crate::Step;
 use crate::Turn;
 use crate::Way;
 use crate::steps::code_step;
+use crate::steps::goes_up;
 use crate::steps::line_step;
 use numbers::circles::term_sum;
 use parts::drawing::Drawing;
@@ -53,6 +55,16 @@ fn line_error(setup: Setup, e: i32) -> i32
     }
 }
 
+// Whether the step of a line sets its bit: it goes up a row, in an area boundary.
+fn rises(setup: Setup, e: i32) -> bool
+    ensures { λ r. ⌜ r ≡ defined.rises setup e ⌝ }
+{
+    let course = setup.course;
+    let step = line_step(course, e);
+    let down = step.y;
+    course.bounds & goes_up(down)
+}
+
 // The way from a position of a line.
 fn line_way(setup: Setup, done: u16, pen: Pen) -> Way
     ensures { λ r. ⌜ gone setup r pen ≡ defined.lineMoved setup done pen ⌝ }
@@ -63,7 +75,10 @@ fn line_way(setup: Setup, done: u16, pen: Pen) -> Way
             course,
             line_step(course, pen.e),
             line_error(setup, pen.e),
-            Drawing::Line { done: done + 1 },
+            Drawing::Line {
+                done: done + 1,
+                rose: rises(setup, pen.e),
+            },
         )
     } else {
         Way::Here {
@@ -118,12 +133,13 @@ fn code_way(setup: Setup, count: u8, code: u16, done: u16, pen: Pen) -> Way
 
 // The drawing after a row: the next row, or nothing after the last.
 fn row_after(row: u16, last: u16) -> Drawing
-    ensures { λ r. ⌜ r ≡ choose (ltb row last) (Drawing.Block 0 (row + 1)) (Drawing.Nothing false) ⌝ }
+    ensures { λ r. ⌜ r ≡ choose (ltb row last) (Drawing.Block false 0 (row + 1)) (Drawing.Nothing false) ⌝ }
 {
     if row < last {
         Drawing::Block {
             column: 0,
             row: row + 1,
+            inside: false,
         }
     } else {
         Drawing::Nothing { stopped: false }
@@ -131,8 +147,8 @@ fn row_after(row: u16, last: u16) -> Drawing
 }
 
 // The way from a position of a block.
-fn block_way(setup: Setup, column: u16, row: u16, pen: Pen) -> Way
-    ensures { λ r. ⌜ gone setup r pen ≡ defined.blockMoved setup column row pen ⌝ }
+fn block_way(setup: Setup, column: u16, row: u16, inside: bool, pen: Pen) -> Way
+    ensures { λ r. ⌜ gone setup r pen ≡ defined.blockMoved setup column row inside pen ⌝ }
 {
     let course = setup.course;
     let x = course.x;
@@ -146,6 +162,7 @@ fn block_way(setup: Setup, column: u16, row: u16, pen: Pen) -> Way
             drawing: Drawing::Block {
                 column: column + 1,
                 row,
+                inside,
             },
         }
     } else {
@@ -155,15 +172,19 @@ fn block_way(setup: Setup, column: u16, row: u16, pen: Pen) -> Way
     }
 }
 
-// The way from this position; with nothing in hand there is none.
-pub(crate) fn way_of(setup: Setup, pen: Pen) -> Way
-    ensures { λ r. ⌜ gone setup r pen ≡ defined.moved setup pen ⌝ }
+// The way from this position, where a fill is inside or not; with nothing in hand there is none.
+pub(crate) fn way_of(setup: Setup, inside: bool, pen: Pen) -> Way
+    ensures { λ r. ⌜ gone setup r pen ≡ defined.moved setup (defined.penWith (withInside inside (pen .drawing)) pen) ⌝ }
 {
     let drawing = pen.drawing;
     match drawing {
         Drawing::Nothing { stopped: _ } => Way::Here { drawing },
-        Drawing::Line { done } => line_way(setup, done, pen),
+        Drawing::Line { done, rose: _ } => line_way(setup, done, pen),
         Drawing::Codes { count, code, done } => code_way(setup, count, code, done, pen),
-        Drawing::Block { column, row } => block_way(setup, column, row, pen),
+        Drawing::Block {
+            inside: _,
+            column,
+            row,
+        } => block_way(setup, column, row, inside, pen),
     }
 }

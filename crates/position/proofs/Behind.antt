@@ -1,5 +1,5 @@
 -- What lies behind the memory neither shows in a position nor is changed by it: each pixel that the position reads or writes lies in the memory.
-use mathlib.Core.Path.{_≡_, refl, ap, _∙_}
+use mathlib.Core.Path.{_≡_, refl, ap, ap₂, _∙_}
 use mathlib.Core.Bool.{Bool, true, false, not, _&&_, _||_}
 use mathlib.Core.List.{List, _++_}
 use Prim.Native.Nat.{ℕ}
@@ -9,11 +9,13 @@ use borrow.Author.Tests.{eqb-true}
 use Rattle.numbers.specs.Choose.{choose}
 use Rattle.pixels.specs.Pixels.{pixelAt}
 use Rattle.pixels.proofs.Pixels.{pixel-append, put-append}
+use Rattle.parts.specs.Drawings.{insideOf, withInside}
 use Rattle.moves.specs.declared.Setup.{Setup}
 use Rattle.moves.specs.declared.Pen.{Pen}
+use Rattle.moves.specs.Moves.{penWith}
 use Rattle.position.specs.Places.{columnOf, onMap, maskX, maskY, inMask, isMove, isNulled}
 use Rattle.position.specs.Fates.{destinationPixel, onZero, isCompared}
-use Rattle.position.specs.Drawn.{sourcePixel, isForeground, inkOf, picked, mixedPixel, drawn}
+use Rattle.position.specs.Drawn.{sourcePixel, isOne, insideAt, crossed, isForeground, inkOf, picked, mixedPixel, drawn}
 use Rattle.position.specs.Within.{Within}
 use Rattle.position.specs.Inner.{isLeftOut, writtenOf}
 use Rattle.position.proofs.Writing.{drawn-in}
@@ -23,6 +25,11 @@ use Rattle.position.proofs.Safety.{derived-reads, picked-reads, left-in
 chosen : {A : Type 0} (t : Bool) (a b c : A) → (t ≡ true → a ≡ b) → choose t a c ≡ choose t b c
 chosen true a b c same = same refl
 chosen false a b c same = refl
+
+-- a test that counts only where another holds
+asked-only : (t a b : Bool) → (t ≡ true → a ≡ b) → (t && a) ≡ (t && b)
+asked-only true a b same = same refl
+asked-only false a b same = refl
 
 -- a choice of two lists with the same end
 choose-append : (t : Bool) (a b c rest : List ℕ) → c ≡ b ++ rest → choose t (a ++ rest) c ≡ choose t a b ++ rest
@@ -50,13 +57,29 @@ module _ (s : Setup) (memory rest : List ℕ) (pen : Pen) (h : Within s (length 
 
   left-behind : isLeftOut s (memory ++ rest) pen ≡ isLeftOut s memory pen
   unfolding isLeftOut
-  left-behind = inside-only (isMove s (pen .drawing)) (isNulled s (pen .drawing)) (onMap s pen) (inMask s pen) _ _ zero-behind
+  left-behind = inside-only (isMove s (pen .drawing)) (isNulled s pen) (onMap s pen) (inMask s pen) _ _ zero-behind
+
+  one-behind : s .flow .pattern ≡ true → isOne s (memory ++ rest) pen ≡ isOne s memory pen
+  unfolding isOne
+  one-behind used = ap (λ (n : ℕ). not (eqb n 0)) (pixel-append memory (s .pattern) _ _ rest (h .pattern used))
+
+  -- a fill reads its pattern map
+  module _ (crossing : s .flow .fills ≡ true → s .flow .pattern ≡ true) where
+    inside-behind : insideAt s (memory ++ rest) pen ≡ insideAt s memory pen
+    unfolding insideAt
+    inside-behind =
+        asked-only (s .flow .fills) _ _
+        (λ fills. ap (λ (t : Bool). choose t (not (insideOf (pen .drawing))) (insideOf (pen .drawing))) (one-behind (crossing fills)))
+
+    pub crossed-append : crossed s (memory ++ rest) pen ≡ crossed s memory pen
+    unfolding crossed
+    crossed-append = ap (λ (t : Bool). penWith (withInside t (pen .drawing)) pen) inside-behind
 
   foreground-behind : isForeground s (memory ++ rest) pen ≡ isForeground s memory pen
   unfolding isForeground sourcePixel
   foreground-behind =
       chosen (s .flow .pattern) _ _ _
-      (λ used. ap (λ (n : ℕ). not (eqb n 0)) (pixel-append memory (s .pattern) _ _ rest (h .pattern used)))
+      (λ used. ap₂ (choose (s .flow .fills)) (inside-behind (λ fills. used)) (one-behind used))
       ∙ ap (choose (s .flow .pattern) _)
       (chosen (s .flow .derived) _ _ true
       (λ used. ap (λ (n : ℕ). not (eqb n 0)) (pixel-append memory (s .source) _ _ rest (h .source (derived-reads (s .flow) used)))))

@@ -17,9 +17,9 @@ use Rattle.rules.specs.Starts.{codeAt}
 use Rattle.moves.specs.declared.Turn.the-variants.{Forth}
 use Rattle.moves.specs.declared.Setup.{Setup}
 use Rattle.moves.specs.declared.Pen.{Pen}
-use Rattle.position.specs.Places.{isWithin, columnOf, onMap, maskX, maskY, inMask, isMove, isFirst, isLast, isNulled}
+use Rattle.position.specs.Places.{isWithin, columnOf, placeX, onMap, maskX, maskY, inMask, isMove, isFirst, isLast, isNulled}
 use Rattle.position.specs.Fates.{destinationPixel, onZero, isCompared, fateOf}
-use Rattle.position.specs.Drawn.{sourcePixel, isForeground, inkOf, picked, mixedPixel, drawnBy, drawn}
+use Rattle.position.specs.Drawn.{sourcePixel, isOne, isForeground, inkOf, picked, mixedPixel, drawnBy, drawn}
 
 -- a row of eight bytes, all 0
 abbrev zeros : List ℕ
@@ -29,11 +29,11 @@ abbrev row : Map
 row = record { base = 0; width = 7; height = 0; format = 3 }
 
 -- AA hex is drawn into the row where the pattern is 1, and BB hex where it is 0; the mask is two pixels wide, from column 2 on
-abbrev setup : (derived : Bool) (mask nulls condition : ℕ) → Setup
-setup derived mask nulls condition =
+abbrev setup : (derived : Bool) (mask mode condition : ℕ) → Setup
+setup derived mask mode condition =
     record {
-      course = record { x = Forth; y = Forth; steep = false; read = false; inverts = false };
-      flow = record { source = derived; pattern = false; derived = derived; foreground = false; background = false; mask = mask; nulls = nulls };
+      course = record { x = Forth; y = Forth; steep = false; read = false; inverts = false; bounds = false };
+      flow = record { source = derived; pattern = false; derived = derived; foreground = false; background = false; mask = mask; mode = mode; fills = false };
       destination = row;
       source = row;
       pattern = row;
@@ -47,6 +47,7 @@ setup derived mask nulls condition =
       steps = 0x20000000;
       k1 = pos 0;
       k2 = pos 0;
+      edge = negsuc 2047;
     }
 
 -- at a column of the row, its source in column 0
@@ -63,7 +64,7 @@ penAt x drawing =
 -- the row after a line's one position in each of these columns, in turn
 abbrev drawnIn : Setup → List ℤ → List ℕ → List ℕ
 drawnIn s [] memory = memory
-drawnIn s (x ∷ columns) memory = drawnIn s columns (drawn s memory (penAt x (Line 0)))
+drawnIn s (x ∷ columns) memory = drawnIn s columns (drawn s memory (penAt x (Line false 0)))
 
 -- ---- where nothing is written
 
@@ -79,17 +80,17 @@ case8 = refl
 
 -- 01, Cases, 11: mask origin X 2, width register 1: columns 2 and 3 only
 pub case11 : drawnIn (setup false 1 0 4) (pos 1 ∷ pos 2 ∷ pos 3 ∷ pos 4 ∷ []) zeros ≡ 0 ∷ 0 ∷ 0xAA ∷ 0xAA ∷ 0 ∷ 0 ∷ 0 ∷ 0 ∷ []
-unfolding field withField bitsOf startOf placeOf shiftOf byteAt pixelAt withPixel tableBit logical gathered merged mixed holdsOf conditionHolds isWithin columnOf onMap maskX maskY inMask isMove isFirst isLast isNulled destinationPixel onZero isCompared fateOf sourcePixel isForeground inkOf picked mixedPixel drawnBy drawn
+unfolding field withField bitsOf startOf placeOf shiftOf byteAt pixelAt withPixel tableBit logical gathered merged mixed holdsOf conditionHolds isWithin columnOf placeX onMap maskX maskY inMask isMove isFirst isLast isNulled destinationPixel onZero isCompared fateOf sourcePixel isOne isForeground inkOf picked mixedPixel drawnBy drawn
 case11 = refl
 
 -- the map's edges are inside, and the destination is not tiled
 pub edges : drawnIn (setup false 0 0 4) (negsuc 0 ∷ pos 0 ∷ pos 7 ∷ pos 8 ∷ []) zeros ≡ 0xAA ∷ 0 ∷ 0 ∷ 0 ∷ 0 ∷ 0 ∷ 0 ∷ 0xAA ∷ []
-unfolding field withField bitsOf startOf placeOf shiftOf byteAt pixelAt withPixel tableBit logical gathered merged mixed holdsOf conditionHolds isWithin columnOf onMap maskX maskY inMask isMove isFirst isLast isNulled destinationPixel onZero isCompared fateOf sourcePixel isForeground inkOf picked mixedPixel drawnBy drawn
+unfolding field withField bitsOf startOf placeOf shiftOf byteAt pixelAt withPixel tableBit logical gathered merged mixed holdsOf conditionHolds isWithin columnOf placeX onMap maskX maskY inMask isMove isFirst isLast isNulled destinationPixel onZero isCompared fateOf sourcePixel isOne isForeground inkOf picked mixedPixel drawnBy drawn
 edges = refl
 
 -- condition 0 is always true
 pub compared : drawnIn (setup false 0 0 0) (pos 3 ∷ []) zeros ≡ zeros
-unfolding field withField bitsOf startOf placeOf shiftOf byteAt pixelAt withPixel tableBit logical gathered merged mixed holdsOf conditionHolds isWithin columnOf onMap maskX maskY inMask isMove isFirst isLast isNulled destinationPixel onZero isCompared fateOf sourcePixel isForeground inkOf picked mixedPixel drawnBy drawn
+unfolding field withField bitsOf startOf placeOf shiftOf byteAt pixelAt withPixel tableBit logical gathered merged mixed holdsOf conditionHolds isWithin columnOf placeX onMap maskX maskY inMask isMove isFirst isLast isNulled destinationPixel onZero isCompared fateOf sourcePixel isOne isForeground inkOf picked mixedPixel drawnBy drawn
 compared = refl
 
 -- ---- what the pattern picks
@@ -97,5 +98,5 @@ compared = refl
 -- code 9 is 1 where the source pixel, here column 0, is not 0
 pub derived : (drawnIn (setup true 0 0 4) (pos 3 ∷ []) zeros ≡ 0 ∷ 0 ∷ 0 ∷ 0xBB ∷ 0 ∷ 0 ∷ 0 ∷ 0 ∷ [])
     × (drawnIn (setup true 0 0 4) (pos 3 ∷ []) (7 ∷ 0 ∷ 0 ∷ 0 ∷ 0 ∷ 0 ∷ 0 ∷ 0 ∷ []) ≡ 7 ∷ 0 ∷ 0 ∷ 0xAA ∷ 0 ∷ 0 ∷ 0 ∷ 0 ∷ [])
-unfolding field withField bitsOf startOf placeOf shiftOf byteAt pixelAt withPixel tableBit logical gathered merged mixed holdsOf conditionHolds isWithin columnOf onMap maskX maskY inMask isMove isFirst isLast isNulled destinationPixel onZero isCompared fateOf sourcePixel isForeground inkOf picked mixedPixel drawnBy drawn
+unfolding field withField bitsOf startOf placeOf shiftOf byteAt pixelAt withPixel tableBit logical gathered merged mixed holdsOf conditionHolds isWithin columnOf placeX onMap maskX maskY inMask isMove isFirst isLast isNulled destinationPixel onZero isCompared fateOf sourcePixel isOne isForeground inkOf picked mixedPixel drawnBy drawn
 derived = (refl, refl)

@@ -4,6 +4,7 @@ use mathlib.Core.Bool.{Bool, true, false, not, _||_, and-eq-true-iff, false≢tr
 use mathlib.Core.List.{List}
 use Prim.Native.Nat.{ℕ, _+_, _≤_, _<_}
 use native.Mathlib.Omega.{arith}
+use lib.Dec.{eqb}
 use borrow.Author.Tests.{leb-true}
 use Rattle.numbers.specs.Choose.{choose}
 use Rattle.numbers.proofs.Choices.{by-test, choose-true, choose-false}
@@ -11,16 +12,17 @@ use Rattle.pixels.specs.declared.Map.{Map}
 use Rattle.pixels.specs.Maps.{placeOf, neededOf}
 use Rattle.pixels.proofs.Maps.{place-lt}
 use Rattle.parts.specs.declared.shapes.Point.{Point}
+use Rattle.parts.specs.declared.drawing.Drawing.{Drawing}
 use Rattle.rules.specs.Maps.{endHolds, isInside}
 use Rattle.rules.proofs.PointerLaws.{inside-x, inside-y}
 use Rattle.moves.specs.declared.Flow.{Flow}
 use Rattle.moves.specs.declared.Setup.{Setup}
 use Rattle.moves.specs.declared.Pen.{Pen}
-use Rattle.moves.specs.Moves.{moved}
+use Rattle.moves.specs.Moves.{penWith, moved}
 use Rattle.moves.proofs.Kept.{source-in, pattern-in, pointers-moved}
 use Rattle.position.specs.Places.{isWithin, onMap, maskX, maskY, inMask, isMove, isNulled}
 use Rattle.position.specs.Fates.{onZero}
-use Rattle.position.specs.Drawn.{sourcePixel}
+use Rattle.position.specs.Drawn.{sourcePixel, crossed}
 use Rattle.position.specs.Within.{readsSource, Within}
 use Rattle.position.specs.Inner.{isLeftOut, sourceRead, Safe}
 use Rattle.position.proofs.Columns.{within-column}
@@ -67,7 +69,7 @@ picked-read s memory pen foreground colour =
 pub left-in : (s : Setup) (memory : List ℕ) (pen : Pen) → isLeftOut s memory pen ≡ false → (onMap s pen ≡ true) × (inMask s pen ≡ true)
 unfolding isLeftOut
 left-in s memory pen =
-    by (isMove s (pen .drawing)) (isNulled s (pen .drawing)) (onMap s pen) (inMask s pen) (onZero s memory pen)
+    by (isMove s (pen .drawing)) (isNulled s pen) (onMap s pen) (inMask s pen) (onZero s memory pen)
   where
     by : (a b on inside z : Bool) → (a || b || not on || not inside || z) ≡ false → (on ≡ true) × (inside ≡ true)
     by true b on inside z e = absurd (false≢true (sym e))
@@ -87,12 +89,16 @@ held-within size map x y h v e = omega (arith, place-lt map x y h v, leb-true (m
 inside-within : (size : ℕ) (map : Map) (p : Point) → endHolds size map ≡ true → isInside map p ≡ true → placeOf map (p .x) (p .y) < size
 inside-within size map p held inside = held-within size map (p .x) (p .y) (inside-x map p inside) (inside-y map p inside) held
 
+-- what is asked where there is a mask holds in mode 10
+masked : (mode : ℕ) (b : Bool) → mode ≡ 2 → (eqb mode 0 || b) ≡ true → b ≡ true
+masked mode b e h = rw e at h
+
 module _ (s : Setup) (size : ℕ) (pen : Pen) where
   -- in mode 10 the mask pixel inside the boundary is one of its map
   mask-inside : inMask s pen ≡ true → s .flow .mask ≡ 2
       → (isWithin (s .mask .width) (maskX s pen) ≡ true) × (isWithin (s .mask .height) (maskY s pen) ≡ true)
   unfolding isWithin maskX maskY inMask
-  mask-inside inside used = and-eq-true-iff (isWithin (s .mask .width) (maskX s pen)) _ .0 (rw used at inside)
+  mask-inside inside used = and-eq-true-iff (isWithin (s .mask .width) (maskX s pen)) _ .0 (masked (s .flow .mask) _ used inside)
 
   pub safe-within : Safe s size pen → Within s size pen
   safe-within h =
@@ -106,6 +112,20 @@ module _ (s : Setup) (size : ℕ) (pen : Pen) where
         destination = λ on inside. let m = on-map s pen on in held-within size (s .destination) _ _ (m .0) (m .1) (h .destination);
       }
 
+  -- another drawing in hand changes nothing of that
+  pub safe-with : (d : Drawing) → Safe s size pen → Safe s size (penWith d pen)
+  unfolding penWith
+  safe-with d h =
+      record {
+        destination = h .destination;
+        mask = h .mask;
+        source = h .source;
+        pattern = h .pattern;
+        used = h .used;
+        crossing = h .crossing;
+        pointers = h .pointers;
+      }
+
   pub safe-moved : Safe s size pen → Safe s size (moved s pen)
   safe-moved h =
       record {
@@ -114,5 +134,11 @@ module _ (s : Setup) (size : ℕ) (pen : Pen) where
         source = h .source;
         pattern = h .pattern;
         used = h .used;
+        crossing = h .crossing;
         pointers = pointers-moved s pen (h .pointers);
       }
+
+-- the pen at a position is safe where the pen before it is
+pub safe-crossed : (s : Setup) (size : ℕ) (memory : List ℕ) (pen : Pen) → Safe s size pen → Safe s size (crossed s memory pen)
+unfolding crossed
+safe-crossed s size memory pen h = safe-with s size pen _ h

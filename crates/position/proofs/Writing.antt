@@ -10,25 +10,25 @@ use Rattle.pixels.specs.Pixels.{withPixel}
 use Rattle.pixels.proofs.Pixels.{length-put, byte-put-other, byte-put-lt}
 use Rattle.moves.specs.declared.Setup.{Setup}
 use Rattle.moves.specs.declared.Pen.{Pen}
-use Rattle.position.specs.Places.{isWithin, columnOf, onMap, inMask, isMove, isNulled}
+use Rattle.position.specs.Places.{isWithin, columnOf, placeX, onMap, inMask, isMove, isNulled}
 use Rattle.position.specs.Fates.{Fate, Moved, Nulled, OutsideMap, OutsideMask, MaskZero, Compared, Written, onZero, isCompared, fateOf}
 use Rattle.position.specs.Drawn.{mixedPixel, drawnBy, drawn}
 use Rattle.position.specs.Inner.{isLeftOut, writtenOf}
 use Rattle.position.proofs.Columns.{within-column}
 
 -- the destination's column and row
-abbrev column : Pen → ℕ
-column pen = columnOf (pen .destination .x)
+abbrev column : Setup → Pen → ℕ
+column s pen = columnOf (placeX s pen)
 
 abbrev row : Pen → ℕ
 row pen = columnOf (pen .destination .y)
 
 -- a position on the map is a pixel of it
-pub on-map : (s : Setup) (pen : Pen) → onMap s pen ≡ true → (column pen ≤ s .destination .width) × (row pen ≤ s .destination .height)
+pub on-map : (s : Setup) (pen : Pen) → onMap s pen ≡ true → (column s pen ≤ s .destination .width) × (row pen ≤ s .destination .height)
 unfolding onMap
 on-map s pen e =
-    let h = and-eq-true-iff (isWithin (s .destination .width) (pen .destination .x)) _ .0 e in
-    (within-column _ (pen .destination .x) (h .0), within-column _ (pen .destination .y) (h .1))
+    let h = and-eq-true-iff (isWithin (s .destination .width) (placeX s pen)) _ .0 e in
+    (within-column _ (placeX s pen) (h .0), within-column _ (pen .destination .y) (h .1))
 
 -- a position that is neither moved nor nulled nor outside its map is on it
 passed : (moved nulled on : Bool) (f : Fate) → choose moved Moved (choose nulled Nulled (choose (not on) OutsideMap f)) ≡ Written → on ≡ true
@@ -40,11 +40,11 @@ passed false false false f e = cc
 module _ (s : Setup) (memory : List ℕ) (pen : Pen) where
   pub written-on-map : fateOf s memory pen ≡ Written → onMap s pen ≡ true
   unfolding fateOf
-  written-on-map e = passed (isMove s (pen .drawing)) (isNulled s (pen .drawing)) (onMap s pen) _ e
+  written-on-map e = passed (isMove s (pen .drawing)) (isNulled s pen) (onMap s pen) _ e
 
   -- memory with the destination pixel mixed
   abbrev put : List ℕ
-  put = withPixel memory (s .destination) (column pen) (row pen) (mixedPixel s memory pen)
+  put = withPixel memory (s .destination) (column s pen) (row pen) (mixedPixel s memory pen)
 
   -- what holds of memory, and of memory with the pixel mixed where that is written, holds of what is drawn
   pub by-fate : (P : List ℕ → Type 0) → P memory → (fateOf s memory pen ≡ Written → P put) → P (drawn s memory pen)
@@ -64,7 +64,7 @@ module _ (s : Setup) (memory : List ℕ) (pen : Pen) where
   pub drawn-in : drawn s memory pen ≡ choose (isLeftOut s memory pen) memory (writtenOf s memory pen)
   unfolding fateOf isLeftOut writtenOf drawnBy drawn
   drawn-in =
-      by (isMove s (pen .drawing)) (isNulled s (pen .drawing)) (not (onMap s pen)) (not (inMask s pen)) (onZero s memory pen)
+      by (isMove s (pen .drawing)) (isNulled s pen) (not (onMap s pen)) (not (inMask s pen)) (onZero s memory pen)
       (isCompared s memory pen)
     where
       by : (a b c d e f : Bool)
@@ -82,7 +82,7 @@ module _ (s : Setup) (memory : List ℕ) (pen : Pen) where
   length-drawn = by-fate (λ (m : List ℕ). length m ≡ length memory) refl (λ e. length-put memory _ _ _ _)
 
   -- every byte but the destination pixel's stays
-  pub drawn-elsewhere : (j : ℕ) → (j ≡ placeOf (s .destination) (column pen) (row pen) → ⊥)
+  pub drawn-elsewhere : (j : ℕ) → (j ≡ placeOf (s .destination) (column s pen) (row pen) → ⊥)
       → getD (drawn s memory pen) j 0 ≡ getD memory j 0
   drawn-elsewhere j ne = by-fate (λ (m : List ℕ). getD m j 0 ≡ getD memory j 0) refl (λ e. byte-put-other memory _ _ _ _ j ne)
 

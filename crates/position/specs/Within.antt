@@ -6,7 +6,7 @@ use Rattle.pixels.specs.Maps.{placeOf}
 use Rattle.moves.specs.declared.Flow.{Flow}
 use Rattle.moves.specs.declared.Setup.{Setup}
 use Rattle.moves.specs.declared.Pen.{Pen}
-use Rattle.position.specs.Places.{columnOf, onMap, maskX, maskY, inMask}
+use Rattle.position.specs.Places.{columnOf, placeX, onMap, maskX, maskY, inMask}
 
 -- 01, One position: the source pixel is read where a source field is 10 or the pattern is 9
 unfoldable pub readsSource : Flow → Bool
@@ -20,4 +20,4 @@ pub record Within (s : Setup) (size : ℕ) (pen : Pen) : Type 0 where
   pub mask : onMap s pen ≡ true → inMask s pen ≡ true → s .flow .mask ≡ 2
       → placeOf (s .mask) (columnOf (maskX s pen)) (columnOf (maskY s pen)) < size
   pub destination : onMap s pen ≡ true → inMask s pen ≡ true
-      → placeOf (s .destination) (columnOf (pen .destination .x)) (columnOf (pen .destination .y)) < size
+      → placeOf (s .destination) (columnOf (placeX s pen)) (columnOf (pen .destination .y)) < size

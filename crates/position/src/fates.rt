@@ -7,9 +7,8 @@ ghost use Rattle.position.specs.Places.{onMap, inMask};
 ghost use Rattle.position.specs.Fates.{onZero};
 ghost use Rattle.position.specs.Within.{Within};
 ghost use Rattle.position.specs.Inner.{isLeftOut};
+use crate::modes::is_held_back;
 use crate::places::in_mask;
-use crate::places::is_move;
-use crate::places::is_nulled;
 use crate::places::mask_of;
 use crate::places::on_map;
 use mixes::conditions::holds;
@@ -36,10 +35,7 @@ pub(crate) fn is_left_out(setup: Setup, memory: &[u8], pen: Pen) -> bool
     ensures { λ r. ⌜ r ≡ isLeftOut setup (now (memory .entry)) pen ⌝ }
 {
     let drawing = pen.drawing;
-    if is_move(setup, drawing) {
-        return true;
-    }
-    if is_nulled(setup, drawing) {
+    if is_held_back(setup, pen.e, drawing) {
         return true;
     }
     if !on_map(setup, pen) {

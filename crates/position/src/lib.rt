@@ -1,4 +1,5 @@
 // One position: what becomes of it, and what it writes.
 pub mod drawn;
 mod fates;
+mod modes;
 mod places;

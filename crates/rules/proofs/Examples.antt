@@ -9,9 +9,9 @@ use Rattle.parts.specs.declared.shapes.Point.{Point}
 use Rattle.parts.specs.declared.refusals.Refusal.{Refusal}
 use Rattle.parts.specs.declared.refusals.Refusal.the-variants.{Accepted, Fields, Mixes, Ends}
 use Rattle.parts.specs.declared.drawing.Drawing.the-variants.{Nothing, Codes}
-use Rattle.rules.specs.Operations.{isMap, isLine, isBlock, sourceIsColour, usesSource, usesPattern, usesMask}
-use Rattle.rules.specs.Maps.{freshMap, mapAt, formatHolds, endHolds}
-use Rattle.rules.specs.Rules.{isSource, isPattern, fieldsHold, mixesHold, usedMaps, formatsHold, endsHold, startRefusal}
+use Rattle.rules.specs.Operations.{isMap, isLine, isFill, isBlock, sourceIsColour, usesSource, usesPattern, usesMask}
+use Rattle.rules.specs.Maps.{isOneBit, freshMap, mapAt, formatHolds, endHolds}
+use Rattle.rules.specs.Rules.{isSource, isPattern, fillHolds, fieldsHold, mixesHold, usedMaps, formatsHold, endsHold, startRefusal}
 use Rattle.rules.specs.Starts.{turned, codeAt, drawingStarted}
 use Rattle.rules.specs.Totals.{codesFrom, totalOf}
 
@@ -24,18 +24,23 @@ answer operations mix base =
 
 -- 01, Cases, 12: at base 0 accepted, at base 1 refusal 8
 pub case12 : (answer 0x05018000 3 0 ≡ Accepted) × (answer 0x05018000 3 1 ≡ Ends)
-unfolding bitsOf neededOf isMap isBlock sourceIsColour usesSource usesPattern usesMask mapAt formatHolds endHolds isSource isPattern fieldsHold mixesHold usedMaps formatsHold endsHold startRefusal
+unfolding bitsOf neededOf isMap isFill sourceIsColour usesSource usesPattern usesMask mapAt formatHolds endHolds isSource isPattern fieldsHold mixesHold usedMaps formatsHold endsHold startRefusal
 case12 = (refl, refl)
 
 -- destination code 0 is no map; mix 16 hex is none; of both, and an end beyond the memory, the lowest is given
 pub lowest : (answer 0x05008000 3 0 ≡ Fields) × (answer 0x05018000 0x16 0 ≡ Mixes) × (answer 0x05008000 0x16 1 ≡ Fields)
-unfolding isMap isBlock sourceIsColour usesSource isSource isPattern fieldsHold mixesHold startRefusal
+unfolding isMap isFill sourceIsColour usesSource isSource isPattern fieldsHold mixesHold startRefusal
 lowest = (refl, refl, refl)
 
--- drawing mode 11 is refused for a line, and ignored for a block
-pub boundary : (answer 0x05018030 3 0 ≡ Fields) × (answer 0x08018030 3 0 ≡ Accepted)
-unfolding bitsOf neededOf isMap isBlock sourceIsColour usesSource usesPattern usesMask mapAt formatHolds endHolds isSource isPattern fieldsHold mixesHold usedMaps formatsHold endsHold startRefusal
+-- 02, 102: drawing mode 11 is taken for a line, and ignored for a block
+pub boundary : (answer 0x05018030 3 0 ≡ Accepted) × (answer 0x08018030 3 0 ≡ Accepted)
+unfolding bitsOf neededOf isMap isFill sourceIsColour usesSource usesPattern usesMask mapAt formatHolds endHolds isSource isPattern fieldsHold mixesHold usedMaps formatsHold endsHold startRefusal
 boundary = (refl, refl)
+
+-- 02, 102: a fill to the left, and one whose pattern is no map, are refused; up or down it is taken
+pub fill : (answer 0x0A012004 3 0 ≡ Fields) × (answer 0x0A018000 3 0 ≡ Fields) × (answer 0x0A012000 3 0 ≡ Accepted) × (answer 0x0A012002 3 0 ≡ Accepted)
+unfolding bitsOf neededOf isMap isFill sourceIsColour usesSource usesPattern usesMask mapAt formatHolds isOneBit endHolds isSource isPattern fillHolds fieldsHold mixesHold usedMaps formatsHold endsHold startRefusal
+fill = (refl, refl, refl, refl)
 
 -- ---- drawings and pointers
 
@@ -53,17 +58,17 @@ case5 = refl
 
 -- 01, Cases, 6 and 7: code 35 hex has six positions, alone or before a 00
 pub case6-7 : (positions 0x35000000 1 ≡ 6) × (positions 0xFFFF0035 4 ≡ 6)
-unfolding byteOf isLine isBlock codeAt drawingStarted codesFrom totalOf
+unfolding byteOf isLine isFill isBlock codeAt drawingStarted codesFrom totalOf
 case6-7 = (refl, refl)
 
 -- 01, Cases, 8: code 20 hex is no stop, and has one position
 pub case8 : (drawingStarted 0x04018000 0x20000000 1 ≡ Codes 1 0 0) × (positions 0x20000000 1 ≡ 1)
-unfolding byteOf isLine isBlock codeAt drawingStarted codesFrom totalOf
+unfolding byteOf isLine isFill isBlock codeAt drawingStarted codesFrom totalOf
 case8 = (refl, refl)
 
 -- a first code 00 ends at once, flagged
 pub stopped : drawingStarted 0x04018000 0x35353500 4 ≡ Nothing true
-unfolding byteOf isLine isBlock codeAt drawingStarted
+unfolding byteOf isLine isFill isBlock codeAt drawingStarted
 stopped = refl
 
 -- 01, Cases, 10: in a map of width register 2, X 3 is turned to 0

@@ -1,4 +1,5 @@
 pub mod MapLaws
+pub mod ModeLaws
 pub mod PointerLaws
 pub mod RefusalLaws
 pub mod StartLaws

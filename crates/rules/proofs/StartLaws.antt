@@ -10,7 +10,7 @@ use Rattle.rules.specs.Operations.{isLine, isBlock}
 use Rattle.rules.specs.Starts.{codeAt, drawingStarted}
 
 -- what holds of each drawing that a start can set holds of the one that it sets
-pub by-start : (P : Drawing → Type 0) (operations steps length : ℕ) → (isLine operations ≡ true → P (Line 0)) → (isBlock operations ≡ true → P (Block 0 0))
+pub by-start : (P : Drawing → Type 0) (operations steps length : ℕ) → (isLine operations ≡ true → P (Line false 0)) → (isBlock operations ≡ true → P (Block false 0 0))
     → P (Nothing true)
     → (isLine operations ≡ false → isBlock operations ≡ false → eqb (codeAt steps length 0) 0 ≡ false → P (Codes length 0 0))
     → P (drawingStarted operations steps length)

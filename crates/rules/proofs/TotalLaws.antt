@@ -31,13 +31,13 @@ module _ (operations : ℕ) (dimensions : Point) (steps : ℕ) where
       → 0 < leftOf dimensions steps drawing
   unfolding leftOf
   left-some (Nothing stopped) h u = absurd (false≢true u)
-  left-some (Line done) h u = omega (arith, line-held operations dimensions steps done h)
+  left-some (Line rose done) h u = omega (arith, line-held operations dimensions steps done rose h)
   left-some (Codes count code done) h u =
       let held = codes-held operations dimensions steps count code done h in
       let more : count - code ≡ suc (count - suc code) = omega arith in
       rw (more, codes-next steps count code _ (code-going steps count code (held .going))) (omega arith)
-  left-some (Block column row) h u =
-      let held = block-held operations dimensions steps column row h in
+  left-some (Block inside column row) h u =
+      let held = block-held operations dimensions steps column row inside h in
       let rows : 1 ≤ dimensions .y + 1 - row = omega arith in
       omega (arith, mul-le-mul-right (dimensions .x + 1) rows)
 
@@ -45,13 +45,13 @@ module _ (operations : ℕ) (dimensions : Point) (steps : ℕ) where
       → leftOf dimensions steps drawing ≤ totalOf dimensions steps drawing
   unfolding leftOf totalOf
   left-le-total (Nothing stopped) h = zero-le
-  left-le-total (Line done) h = omega arith
+  left-le-total (Line rose done) h = omega arith
   left-le-total (Codes count code done) h =
       let held = codes-held operations dimensions steps count code done h in
       let passed = none-stopped-before steps count code (held .going) in
       let whole : code + (count - code) ≡ count = omega arith in
       let split = rw whole at (codes-split steps count code (count - code) passed) in
       omega arith
-  left-le-total (Block column row) h =
+  left-le-total (Block inside column row) h =
       let rows : dimensions .y + 1 - row ≤ dimensions .y + 1 = omega arith in
       omega (arith, mul-le-mul-right (dimensions .x + 1) rows)

@@ -2,6 +2,7 @@
 use Prim.Native.Nat.{ℕ, _/_, _%_, _^_}
 use mathlib.Core.Bool.{Bool, _&&_, _||_}
 use lib.Dec.{leb, eqb}
+use Rattle.numbers.specs.Choose.{choose}
 
 -- 003: bits 31-30, background source: 00 colour, 10 source pixel map
 abbrev pub backgroundSource : ℕ → ℕ
@@ -51,11 +52,19 @@ isLine operations = eqb (functionOf operations) 3 || eqb (functionOf operations)
 unfoldable pub isCodes : ℕ → Bool
 isCodes operations = eqb (functionOf operations) 2 || eqb (functionOf operations) 4
 
--- 003: PxBlt is 8, inverting PxBlt 9
-unfoldable pub isBlock : ℕ → Bool
-isBlock operations = eqb (functionOf operations) 8 || eqb (functionOf operations) 9
+-- 003: area fill is 10
+unfoldable pub isFill : ℕ → Bool
+isFill operations = eqb (functionOf operations) 10
 
--- 01, refusal 4: the functions that draw
+-- 003: PxBlt is 8, inverting PxBlt 9; 02, 102: an area fill has the positions of a PxBlt
+unfoldable pub isBlock : ℕ → Bool
+isBlock operations = eqb (functionOf operations) 8 || eqb (functionOf operations) 9 || isFill operations
+
+-- 01, The functions, PxBlt: drawing mode is ignored; 02, 102: by a fill too
+unfoldable pub modeOf : ℕ → ℕ
+modeOf operations = choose (isBlock operations) 0 (drawingMode operations)
+
+-- 01, refusal 4; 02, 102: the functions that draw
 unfoldable pub draws : ℕ → Bool
 draws operations = isLine operations || isCodes operations || isBlock operations
 

@@ -1,5 +1,5 @@
 -- The start rules: refusals 5 to 8, on the registers as they are after the write.
-use Prim.Native.Nat.{ℕ}
+use Prim.Native.Nat.{ℕ, _/_, _%_}
 use mathlib.Core.Bool.{Bool, not, _&&_, _||_}
 use mathlib.Core.List.{List}
 use lib.Dec.{leb, eqb}
@@ -8,7 +8,7 @@ use Rattle.pixels.specs.declared.Map.{Map}
 use Rattle.pixels.specs.Maps.{bitsOf}
 use Rattle.parts.specs.declared.refusals.Refusal.{Refusal}
 use Rattle.parts.specs.declared.refusals.Refusal.the-variants.{Accepted, Fields, Mixes, Formats, Ends}
-use Rattle.rules.specs.Operations.{backgroundSource, foregroundSource, sourceField, destinationField, patternField, maskMode, drawingMode, isMap, isBlock, sourceIsColour, usesSource, usesPattern, usesMask}
+use Rattle.rules.specs.Operations.{backgroundSource, foregroundSource, sourceField, destinationField, patternField, maskMode, octantOf, isMap, isFill, sourceIsColour, usesSource, usesPattern, usesMask}
 use Rattle.rules.specs.Maps.{mapAt, formatHolds, isOneBit, endHolds}
 
 -- 01, refusal 5: a source field is 00 or 10
@@ -19,7 +19,11 @@ isSource field = eqb field 0 || eqb field 2
 unfoldable pub isPattern : ℕ → Bool
 isPattern field = isMap field || eqb field 8 || eqb field 9
 
--- 01, refusal 5
+-- 02, 102: a fill's pattern is a map, and its X is not negative
+unfoldable pub fillHolds : ℕ → Bool
+fillHolds operations = usesPattern operations && eqb (octantOf operations / 4 % 2) 0
+
+-- 01, refusal 5; 02, 102
 unfoldable pub fieldsHold : ℕ → Bool
 fieldsHold operations =
     isSource (foregroundSource operations)
@@ -28,7 +32,7 @@ fieldsHold operations =
     && isPattern (patternField operations)
     && not (eqb (maskMode operations) 3)
     && (not (usesSource operations) || isMap (sourceField operations))
-    && (isBlock operations || not (eqb (drawingMode operations) 3))
+    && (not (isFill operations) || fillHolds operations)
 
 -- 01, refusal 6: neither mix above 15 hex
 unfoldable pub mixesHold : ℕ → ℕ → Bool

@@ -1,6 +1,6 @@
 -- What an accepted start sets.
 use Prim.Native.Nat.{ℕ, _+_, _-_, _%_}
-use mathlib.Core.Bool.{true}
+use mathlib.Core.Bool.{true, false}
 use mathlib.Core.List.{List}
 use lib.Dec.{eqb}
 use Rattle.numbers.specs.Choose.{choose}
@@ -28,10 +28,10 @@ patternStarted operations maps p = choose (usesPattern operations) (turned (mapA
 unfoldable pub codeAt : ℕ → ℕ → ℕ → ℕ
 codeAt steps count i = byteOf steps (4 - count + i)
 
--- 01, Registers: a line, a block, or as many codes as the write has bytes; a first code 00 ends at once, flagged as stopped
+-- 01, Registers: a line, a block, or as many codes as the write has bytes; a first code 00 ends at once, flagged as stopped; 02, 102: each row starts outside
 unfoldable pub drawingStarted : ℕ → ℕ → ℕ → Drawing
 drawingStarted operations steps length =
-    choose (isLine operations) (Line 0)
-    (choose (isBlock operations) (Block 0 0)
+    choose (isLine operations) (Line false 0)
+    (choose (isBlock operations) (Block false 0 0)
     (choose (eqb (codeAt steps length 0) 0) (Nothing true)
     (Codes length 0 0)))

@@ -16,13 +16,13 @@ codesFrom steps count i (suc k) =
 -- 01, The functions: the positions of a drawing from its start
 unfoldable pub totalOf : Point → ℕ → Drawing → ℕ
 totalOf dimensions steps (Nothing stopped) = 0
-totalOf dimensions steps (Line done) = dimensions .x + 1
+totalOf dimensions steps (Line rose done) = dimensions .x + 1
 totalOf dimensions steps (Codes count code done) = codesFrom steps count 0 count
-totalOf dimensions steps (Block column row) = (dimensions .y + 1) * (dimensions .x + 1)
+totalOf dimensions steps (Block inside column row) = (dimensions .y + 1) * (dimensions .x + 1)
 
 -- 01, State image: the positions left at the counters
 unfoldable pub leftOf : Point → ℕ → Drawing → ℕ
 leftOf dimensions steps (Nothing stopped) = 0
-leftOf dimensions steps (Line done) = dimensions .x + 1 - done
+leftOf dimensions steps (Line rose done) = dimensions .x + 1 - done
 leftOf dimensions steps (Codes count code done) = codesFrom steps count code (count - code) - done
-leftOf dimensions steps (Block column row) = (dimensions .y + 1 - row) * (dimensions .x + 1) - column
+leftOf dimensions steps (Block inside column row) = (dimensions .y + 1 - row) * (dimensions .x + 1) - column

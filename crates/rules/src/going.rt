@@ -8,7 +8,9 @@ use crate::maps::is_inside;
 use crate::maps::map_at;
 use crate::operations::is_block;
 use crate::operations::is_codes;
+use crate::operations::is_fill;
 use crate::operations::is_line;
+use crate::operations::mode_of;
 use crate::operations::pattern_field;
 use crate::operations::source_field;
 use crate::operations::uses_pattern;
@@ -57,10 +59,21 @@ pub fn counters_hold(operations: u32, dimensions: Point, steps: u32, drawing: Dr
 {
     match drawing {
         Drawing::Nothing { stopped: _ } => true,
-        Drawing::Line { done } => is_line(operations) & (done <= dimensions.x),
+        Drawing::Line { done, rose } => {
+            is_line(operations)
+                & (done <= dimensions.x)
+                & (!rose | ((mode_of(operations) == 3) & (1 <= done)))
+        }
         Drawing::Codes { count, code, done } => { codes_hold(operations, steps, count, code, done) }
-        Drawing::Block { column, row } => {
-            is_block(operations) & (column <= dimensions.x) & (row <= dimensions.y)
+        Drawing::Block {
+            column,
+            row,
+            inside,
+        } => {
+            is_block(operations)
+                & (column <= dimensions.x)
+                & (row <= dimensions.y)
+                & (!inside | (is_fill(operations) & (1 <= column)))
         }
     }
 }

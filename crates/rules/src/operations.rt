@@ -91,12 +91,30 @@ pub fn is_codes(operations: u32) -> bool
     (function == 2) | (function == 4)
 }
 
-// Whether the function draws a block.
+// Whether the function fills an area.
+pub fn is_fill(operations: u32) -> bool
+    ensures { λ r. ⌜ r ≡ defined.isFill operations ⌝ }
+{
+    function_of(operations) == 10
+}
+
+// Whether the function draws a block; an area fill has a block's positions.
 pub fn is_block(operations: u32) -> bool
     ensures { λ r. ⌜ r ≡ defined.isBlock operations ⌝ }
 {
     let function = function_of(operations);
-    (function == 8) | (function == 9)
+    (function == 8) | (function == 9) | (function == 10)
+}
+
+// The drawing mode, which a block ignores.
+pub fn mode_of(operations: u32) -> u32
+    ensures { λ r. ⌜ r ≡ defined.modeOf operations ⌝ }
+{
+    if is_block(operations) {
+        0
+    } else {
+        drawing_mode(operations)
+    }
 }
 
 // Whether the function draws at all.

@@ -4,18 +4,18 @@ ghost use lib.Dec.{eqb};
 ghost use Rattle.pixels.specs.Maps.{bitsOf};
 ghost use Rattle.rules.specs.Operations.{sourceField, destinationField, sourceIsColour};
 ghost use Rattle.rules.specs.Maps.{mapAt, formatHolds};
-ghost use Rattle.rules.specs.Rules.{isSource, isPattern, fieldsHold, mixesHold, usedMaps, formatsHold, endsHold, startRefusal};
+ghost use Rattle.rules.specs.Rules.{isSource, isPattern, fillHolds, fieldsHold, mixesHold, usedMaps, formatsHold, endsHold, startRefusal};
 use crate::maps::end_holds;
 use crate::maps::format_holds;
 use crate::maps::is_one_bit;
 use crate::maps::map_at;
 use crate::operations::background_source;
 use crate::operations::destination_field;
-use crate::operations::drawing_mode;
 use crate::operations::foreground_source;
-use crate::operations::is_block;
+use crate::operations::is_fill;
 use crate::operations::is_map;
 use crate::operations::mask_mode;
+use crate::operations::octant_of;
 use crate::operations::pattern_field;
 use crate::operations::source_field;
 use crate::operations::source_is_colour;
@@ -39,6 +39,13 @@ fn is_pattern(field: u32) -> bool
     is_map(field) | (field == 8) | (field == 9)
 }
 
+// Whether an area fill has a pattern map, and does not go to the left.
+fn fill_holds(operations: u32) -> bool
+    ensures { λ r. ⌜ r ≡ fillHolds operations ⌝ }
+{
+    uses_pattern(operations) & (octant_of(operations) / 4 % 2 == 0)
+}
+
 // Whether refusal 5 does not apply.
 pub fn fields_hold(operations: u32) -> bool
     ensures { λ r. ⌜ r ≡ fieldsHold operations ⌝ }
@@ -49,7 +56,7 @@ pub fn fields_hold(operations: u32) -> bool
         & is_pattern(pattern_field(operations))
         & (mask_mode(operations) != 3)
         & (!uses_source(operations) | is_map(source_field(operations)))
-        & (is_block(operations) | (drawing_mode(operations) != 3))
+        & (!is_fill(operations) | fill_holds(operations))
 }
 
 // Whether refusal 6 does not apply.

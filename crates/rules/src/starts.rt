@@ -63,10 +63,17 @@ pub fn start_drawing(operations: u32, steps: u32, length: u8) -> Drawing
     ensures { λ r. ⌜ r ≡ defined.drawingStarted operations steps length ⌝ }
 {
     if is_line(operations) {
-        return Drawing::Line { done: 0 };
+        return Drawing::Line {
+            done: 0,
+            rose: false,
+        };
     }
     if is_block(operations) {
-        return Drawing::Block { column: 0, row: 0 };
+        return Drawing::Block {
+            column: 0,
+            row: 0,
+            inside: false,
+        };
     }
     if code_at(steps, length, 0) == 0 {
         return Drawing::Nothing { stopped: true };

@@ -6,20 +6,26 @@ use mathlib.Core.Logic.{_⊎_, inl, inr, ⊎-elim}
 use Prim.Native.Nat.{ℕ, zero, suc, _+_, _≤_, min}
 use native.Mathlib.Omega.{arith}
 use lib.ListN.{length, getD}
+use Rattle.numbers.proofs.Choices.{and-left}
 use Rattle.pixels.specs.Maps.{placeOf}
 use Rattle.parts.specs.declared.drawing.Drawing.{Drawing}
 use Rattle.parts.specs.declared.drawing.Drawing.the-variants.{Nothing, Line, Codes, Block}
 use Rattle.parts.specs.Drawings.{unfinished}
+use Rattle.rules.specs.Operations.{isFill}
 use Rattle.rules.specs.Going.{countersHold}
 use Rattle.rules.specs.Totals.{leftOf}
 use Rattle.rules.proofs.TotalLaws.{left-idle, left-some}
 use Rattle.moves.specs.declared.Setup.{Setup}
 use Rattle.moves.specs.declared.Pen.{Pen}
-use Rattle.moves.proofs.Counters.{left-moved, counters-moved}
+use Rattle.moves.specs.Decoded.{courseOf, flowOf}
+use Rattle.moves.specs.declared.Flow.{Flow}
+use Rattle.moves.proofs.Counters.{Counted, moved-counted}
+use Rattle.moves.specs.Moves.{moved}
+use Rattle.position.specs.Drawn.{insideAt, crossed}
 use Rattle.position.specs.Inner.{Safe}
 use Rattle.position.specs.Within.{Within}
-use Rattle.position.proofs.Behind.{drawn-append}
-use Rattle.position.proofs.Safety.{safe-within, safe-moved}
+use Rattle.position.proofs.Behind.{crossed-append, drawn-append}
+use Rattle.position.proofs.Safety.{safe-within, safe-moved, safe-crossed}
 use Rattle.position.proofs.Writing.{length-drawn, drawn-other}
 use Rattle.runs.specs.Runs.{Run, begun, positioned, stepped, after}
 use Rattle.runs.proofs.AfterLaws.{stepped-idle, stepped-on, after-add}
@@ -63,7 +69,7 @@ bytes-after s j ne n t =
 -- every position of a safe drawing is safe
 pub safe-after : (s : Setup) (size n : ℕ) (t : Run) → Safe s size (t .pen) → Safe s size (after s n t .pen)
 unfolding positioned
-safe-after s size n t h = kept-after s (λ u. Safe s size (u .pen)) (λ u going held. safe-moved s size (u .pen) held) n t h
+safe-after s size n t h = kept-after s (λ u. Safe s size (u .pen)) (λ u going held. safe-moved s size (crossed s (u .memory) (u .pen)) (safe-crossed s size (u .memory) (u .pen) held)) n t h
 
 -- a run with more bytes behind its memory
 unfoldable pub before : List ℕ → Run → Run
@@ -75,12 +81,18 @@ unfolding after before positioned
 behind-after s rest zero t safe = refl
 behind-after s rest (suc n) t safe =
     let u : Run = after s n t in
-    let inside : Within s (length (u .memory)) (u .pen) = rw (length-after s n t) (safe-within s _ _ (safe-after s _ n t safe)) in
+    let held : Safe s (length (u .memory)) (u .pen) = rw (length-after s n t) (safe-after s _ n t safe) in
+    let inside : Within s (length (u .memory)) (u .pen) = safe-within s _ _ held in
     rw (behind-after s rest n t safe)
     (by-stepped s u (λ v. stepped s (before rest u) ≡ before rest v) (λ idle. stepped-idle s (before rest u) idle)
     (λ going.
     stepped-on s (before rest u) going
-    ∙ (λ i. record { pen = positioned s u .pen; memory = drawn-append s (u .memory) rest (u .pen) inside i; done = positioned s u .done })))
+    ∙ (λ i.
+    record {
+      pen = moved s (crossed-append s (u .memory) rest (u .pen) inside (held .crossing) i);
+      memory = drawn-append s (u .memory) rest (u .pen) inside i;
+      done = u .done + 1;
+    })))
 
 -- ---- what came before
 
@@ -125,15 +137,11 @@ run-add s pen memory a b =
 
 -- ---- the positions left
 
--- a drawing in hand is not nothing
-in-hand : (d : Drawing) → unfinished d ≡ true → (stopped : Bool) → d ≡ Nothing stopped → ⊥
-in-hand d e stopped f = false≢true (sym (ap unfinished f) ∙ e)
-
 idle-left : (s : Setup) (d : Drawing) → unfinished d ≡ false → leftOf (s .dimensions) (s .steps) d ≡ 0
 idle-left s (Nothing stopped) e = left-idle (s .dimensions) (s .steps) stopped
-idle-left s (Line done) e = absurd (false≢true (sym e))
+idle-left s (Line rose done) e = absurd (false≢true (sym e))
 idle-left s (Codes count code done) e = absurd (false≢true (sym e))
-idle-left s (Block column row) e = absurd (false≢true (sym e))
+idle-left s (Block inside column row) e = absurd (false≢true (sym e))
 
 -- no run does more positions than it may, and one that does fewer ends idle
 reached : (s : Setup) (pen : Pen) (memory : List ℕ) (n : ℕ)
@@ -168,17 +176,26 @@ after-done s pen memory (suc n) =
     (λ idle. absurd (false≢true (sym idle ∙ going)))
     (reached s pen memory n .1))
 
-module _ (operations : ℕ) (s : Setup) where
+module _ (operations : ℕ) (s : Setup) (course : s .course ≡ courseOf operations) (flow : s .flow ≡ flowOf operations) where
   abbrev holds : Pen → Bool
   holds pen = countersHold operations (s .dimensions) (s .steps) (pen .drawing)
 
   abbrev left : Pen → ℕ
   left pen = leftOf (s .dimensions) (s .steps) (pen .drawing)
 
+  -- a position sets no bit but a fill's
+  inside-fills : (memory : List ℕ) (pen : Pen) → insideAt s memory pen ≡ true → isFill operations ≡ true
+  unfolding insideAt flowOf
+  inside-fills memory pen inside = ap (λ (f : Flow). f .fills) (sym flow) ∙ and-left (s .flow .fills) _ inside
+
+  -- one position fewer is left, and the counters hold
+  pub positioned-counted : (t : Run) → unfinished (t .pen .drawing) ≡ true → holds (t .pen) ≡ true
+      → Counted operations (s .dimensions) (s .steps) (t .pen .drawing) (positioned s t .pen .drawing)
+  unfolding positioned crossed
+  positioned-counted t going h = moved-counted operations s (t .pen) (insideAt s (t .memory) (t .pen)) course h (inside-fills (t .memory) (t .pen)) going
+
   pub counters-after : (n : ℕ) (t : Run) → holds (t .pen) ≡ true → holds (after s n t .pen) ≡ true
-  unfolding positioned
-  counters-after n t h =
-      kept-after s (λ u. holds (u .pen) ≡ true) (λ u going held. counters-moved operations s (u .pen) held) n t h
+  counters-after n t h = kept-after s (λ u. holds (u .pen) ≡ true) (λ u going held. positioned-counted u going held .held) n t h
 
   -- the positions done and those left are together the same
   pub sum-after : (n : ℕ) (t : Run) → holds (t .pen) ≡ true → left (after s n t .pen) + after s n t .done ≡ left (t .pen) + t .done
@@ -186,9 +203,10 @@ module _ (operations : ℕ) (s : Setup) where
   sum-after n t h =
       kept-after s (λ u. (holds (u .pen) ≡ true) × (left (u .pen) + u .done ≡ left (t .pen) + t .done))
       (λ u going held.
-      let fewer = left-moved operations s (u .pen) (held .0) (in-hand (u .pen .drawing) going) in
+      let counted = positioned-counted u going (held .0) in
+      let fewer = counted .left in
       let same = held .1 in
-      (counters-moved operations s (u .pen) (held .0), omega arith)) n t (h, refl) .1
+      (counted .held, omega arith)) n t (h, refl) .1
 
   module _ (pen : Pen) (memory : List ℕ) (n : ℕ) (h : holds pen ≡ true) where
     pub left-after : left (after s n (begun pen memory) .pen) + after s n (begun pen memory) .done ≡ left pen

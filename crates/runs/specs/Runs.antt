@@ -6,7 +6,7 @@ use Rattle.parts.specs.Drawings.{unfinished}
 use Rattle.moves.specs.declared.Setup.{Setup}
 use Rattle.moves.specs.declared.Pen.{Pen}
 use Rattle.moves.specs.Moves.{moved}
-use Rattle.position.specs.Drawn.{drawn}
+use Rattle.position.specs.Drawn.{crossed, drawn}
 
 -- docs/DECISIONS.md, 30: a run under way: the pen, the memory, and the positions done
 pub record Run : Type 0 where
@@ -18,9 +18,9 @@ pub record Run : Type 0 where
 unfoldable pub begun : Pen → List ℕ → Run
 begun pen memory = record { pen = pen; memory = memory; done = 0 }
 
--- 01, The functions: a position, and the move to the next as part of it
+-- 01, The functions: a position, and the move to the next as part of it; 02, 102: a fill's bit is set by the position
 unfoldable pub positioned : Setup → Run → Run
-positioned s t = record { pen = moved s (t .pen); memory = drawn s (t .memory) (t .pen); done = t .done + 1 }
+positioned s t = record { pen = moved s (crossed s (t .memory) (t .pen)); memory = drawn s (t .memory) (t .pen); done = t .done + 1 }
 
 -- 01, The functions: one position, if one is left
 unfoldable pub stepped : Setup → Run → Run

@@ -30,8 +30,8 @@ pub fn run(setup: Setup, from: Pen, memory: &mut [u8], allowance: u32) -> Ran
     let first = from.drawing;
     let mut going = is_unfinished(first);
     while (done < allowance) & going {
-        draw(setup, memory, pen);
-        pen = next(setup, pen);
+        let inside = draw(setup, memory, pen);
+        pen = next(setup, inside, pen);
         done += 1;
         let drawing = pen.drawing;
         going = is_unfinished(drawing);

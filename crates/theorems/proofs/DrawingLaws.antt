@@ -1,18 +1,19 @@
 -- A drawing that fits the stored function is the one that its counters make, and its counters fit their bytes, since a position remains at them.
 use mathlib.Core.Path.{_≡_, refl}
-use mathlib.Core.Bool.{true, false, _||_}
+use mathlib.Core.Bool.{Bool, true, false, _||_}
 use mathlib.Core.Logic.{⊎-elim}
 use Prim.Native.Nat.{ℕ, _<_}
 use native.Mathlib.Omega.{arith}
 use lib.Dec.{eqb}
 use borrow.Author.Tests.{eq-eqb, eqb-true}
+use Rattle.numbers.specs.Choose.{choose}
 use Rattle.numbers.proofs.Choices.{and-left, and-right}
 use Rattle.parts.specs.declared.shapes.Point.{Point}
 use Rattle.parts.specs.declared.drawing.Drawing.{Drawing}
 use Rattle.parts.specs.declared.drawing.Drawing.the-variants.{Nothing, Line, Codes, Block}
 use Rattle.parts.specs.Drawings.{unfinished}
 use Rattle.parts.specs.Reduced.{pointReduced}
-use Rattle.rules.specs.Operations.{isLine, isCodes, isBlock, functionOf}
+use Rattle.rules.specs.Operations.{isLine, isCodes, isBlock, isFill, functionOf}
 use Rattle.rules.specs.Going.{countersHold}
 use Rattle.rules.proofs.CounterLaws.{line-held, codes-held, block-held}
 use Rattle.image.specs.declared.counters.Counters.{Counters}
@@ -31,13 +32,20 @@ codes-no-line : (operations : ℕ) → isCodes operations ≡ true → isLine op
 unfolding isCodes isLine
 codes-no-line operations e = either (λ (f : ℕ). (eqb f 3 || eqb f 5) ≡ false) (functionOf operations) 2 4 e refl refl
 
+-- what holds of the three functions of a block holds of a block's function
+of-block : (P : ℕ → Type 0) (operations : ℕ) → isBlock operations ≡ true → P 8 → P 9 → P 10 → P (functionOf operations)
+unfolding isBlock isFill
+of-block P operations e p q r =
+    let f = functionOf operations in
+    ⊎-elim (λ t. either P f 8 9 t p q) (λ t. rw (eqb-true f 10 t) r) (or-cases (eqb f 8 || eqb f 9) (eqb f 10) e)
+
 block-no-line : (operations : ℕ) → isBlock operations ≡ true → isLine operations ≡ false
-unfolding isBlock isLine
-block-no-line operations e = either (λ (f : ℕ). (eqb f 3 || eqb f 5) ≡ false) (functionOf operations) 8 9 e refl refl
+unfolding isLine
+block-no-line operations e = of-block (λ (f : ℕ). (eqb f 3 || eqb f 5) ≡ false) operations e refl refl refl
 
 block-no-codes : (operations : ℕ) → isBlock operations ≡ true → isCodes operations ≡ false
-unfolding isBlock isCodes
-block-no-codes operations e = either (λ (f : ℕ). (eqb f 2 || eqb f 4) ≡ false) (functionOf operations) 8 9 e refl refl
+unfolding isCodes
+block-no-codes operations e = of-block (λ (f : ℕ). (eqb f 2 || eqb f 4) ≡ false) operations e refl refl refl
 
 -- ---- the drawing and its counters
 
@@ -47,31 +55,50 @@ pub record CountersFit (k : Counters) : Type 0 where
   pub gone : k .gone < 65536
   pub count : k .count < 256
 
+-- the state of a drawing with a bit, 3 where it is set and 1 where not, tells the bit
+record Told (bit : Bool) : Type 0 where
+  pub no-zero : eqb (choose bit 3 1) 0 ≡ false
+  pub no-two : eqb (choose bit 3 1) 2 ≡ false
+  pub told : eqb (choose bit 3 1) 3 ≡ bit
+  pub fits : choose bit 3 1 < 256
+
+told : (bit : Bool) → Told bit
+told true = record { no-zero = refl; no-two = refl; told = refl; fits = omega arith }
+told false = record { no-zero = refl; no-two = refl; told = refl; fits = omega arith }
+
 module _ (operations : ℕ) (dimensions : Point) (steps : ℕ) where
   pub drawing-counted : (d : Drawing) → (unfinished d ≡ true → countersHold operations dimensions steps d ≡ true) → drawingOf operations (countersOf d) ≡ d
   unfolding drawingOf countersOf
   drawing-counted (Nothing true) holds = refl
   drawing-counted (Nothing false) holds = refl
-  drawing-counted (Line done) holds = rw (line-held operations dimensions steps done (holds refl) .function)
+  drawing-counted (Line rose done) holds =
+      let state = told rose in
+      rw (state .no-zero, state .no-two, line-held operations dimensions steps done rose (holds refl) .function, state .told)
   drawing-counted (Codes count code done) holds =
       let function = codes-held operations dimensions steps count code done (holds refl) .function in
       rw (codes-no-line operations function, function)
-  drawing-counted (Block column row) holds =
-      let function = block-held operations dimensions steps column row (holds refl) .function in
-      rw (block-no-line operations function, block-no-codes operations function)
+  drawing-counted (Block inside column row) holds =
+      let state = told inside in
+      let function = block-held operations dimensions steps column row inside (holds refl) .function in
+      rw (state .no-zero, state .no-two, block-no-line operations function, block-no-codes operations function, state .told)
 
   pub counters-fit : pointReduced dimensions ≡ true → (d : Drawing) → (unfinished d ≡ true → countersHold operations dimensions steps d ≡ true)
       → CountersFit (countersOf d)
   unfolding countersOf
   counters-fit r (Nothing true) holds = omega arith
   counters-fit r (Nothing false) holds = omega arith
-  counters-fit r (Line done) holds = omega (arith, line-held operations dimensions steps done (holds refl) .within, point-bounds dimensions r .x)
+  counters-fit r (Line rose done) holds =
+      let held = line-held operations dimensions steps done rose (holds refl) in
+      let bounds = point-bounds dimensions r in
+      let state = told rose in
+      omega arith
   counters-fit r (Codes count code done) holds =
       let held = codes-held operations dimensions steps count code done (holds refl) in
       ⊎-elim (λ p. omega arith) (⊎-elim (λ p. omega arith) (λ p. omega arith)) (lengths count (held .counted))
-  counters-fit r (Block column row) holds =
-      let held = block-held operations dimensions steps column row (holds refl) in
+  counters-fit r (Block inside column row) holds =
+      let held = block-held operations dimensions steps column row inside (holds refl) in
       let bounds = point-bounds dimensions r in
+      let state = told inside in
       omega arith
 
 -- ---- whether two are the same

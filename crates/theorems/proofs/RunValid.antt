@@ -25,14 +25,14 @@ use Rattle.rules.specs.Going.{countersHold, pointersHold}
 use Rattle.rules.proofs.PointerLaws.{inside-x, inside-y}
 use Rattle.moves.specs.declared.Setup.{Setup}
 use Rattle.moves.specs.declared.Pen.{Pen}
-use Rattle.moves.specs.Decoded.{flowOf}
+use Rattle.moves.specs.Decoded.{courseOf, flowOf}
 use Rattle.moves.specs.Inner.{pointersInside}
 use Rattle.moves.specs.Moves.{penWith, penStepped, rowPassed, moved}
-use Rattle.moves.proofs.Counters.{counters-moved}
 use Rattle.moves.proofs.Kept.{kept, pointers-moved, SpotOn, destination-moved, error-moved}
+use Rattle.position.specs.Drawn.{crossed}
 use Rattle.runs.specs.Runs.{Run, begun, positioned, after}
 use Rattle.runs.proofs.AfterLaws.{after-idle}
-use Rattle.runs.proofs.RunLaws.{kept-after}
+use Rattle.runs.proofs.RunLaws.{kept-after, positioned-counted}
 use Rattle.coprocessor.specs.declared.Coprocessor.{Coprocessor}
 use Rattle.coprocessor.specs.Fresh.{sizeHolds}
 use Rattle.coprocessor.specs.Valid.{startRefusalOf, mapsReduced, pointersReduced, reducedOf, goesOn, validOf}
@@ -123,22 +123,26 @@ pub record Sound (operations : ℕ) (s : Setup) (pen : Pen) : Type 0 where
   pub counters : countersHold operations (s .dimensions) (s .steps) (pen .drawing) ≡ true
   pub pointers : pointersInside s pen ≡ true
 
-module _ (operations : ℕ) (s : Setup) (maps : mapReduced (s .source) ≡ true × mapReduced (s .pattern) ≡ true) where
-  sound-moved : (pen : Pen) → Sound operations s pen → Sound operations s (moved s pen)
-  sound-moved pen h =
+module _ (operations : ℕ) (s : Setup) (course : s .course ≡ courseOf operations) (flow : s .flow ≡ flowOf operations)
+    (maps : mapReduced (s .source) ≡ true × mapReduced (s .pattern) ≡ true) where
+  sound-positioned : (t : Run) → unfinished (t .pen .drawing) ≡ true → Sound operations s (t .pen) → Sound operations s (positioned s t .pen)
+  unfolding positioned crossed penWith
+  sound-positioned t going h =
+      let pen : Pen = crossed s (t .memory) (t .pen) in
       let inside = pointers-moved s pen (h .pointers) in
+      let source = not (s .flow .source) || isInside (s .source) (moved s pen .source) in
+      let pattern = not (s .flow .pattern) || isInside (s .pattern) (moved s pen .pattern) in
       record {
-        source = moved-reduced (s .flow .source) (s .source) (pen .source) _ (maps .0) (and-left (not (s .flow .source) || isInside (s .source) (moved s pen .source)) _ inside) (source-unused s pen) (h .source);
-        pattern = moved-reduced (s .flow .pattern) (s .pattern) (pen .pattern) _ (maps .1) (and-right (not (s .flow .source) || isInside (s .source) (moved s pen .source)) _ inside) (pattern-unused s pen) (h .pattern);
+        source = moved-reduced (s .flow .source) (s .source) (pen .source) _ (maps .0) (and-left source pattern inside) (source-unused s pen) (h .source);
+        pattern = moved-reduced (s .flow .pattern) (s .pattern) (pen .pattern) _ (maps .1) (and-right source pattern inside) (pattern-unused s pen) (h .pattern);
         destination = destination-moved s pen (h .destination);
         error = error-moved s pen (h .error);
-        counters = counters-moved operations s pen (h .counters);
+        counters = positioned-counted operations s course flow t going (h .counters) .held;
         pointers = inside;
       }
 
   sound-after : (n : ℕ) (t : Run) → Sound operations s (t .pen) → Sound operations s (after s n t .pen)
-  unfolding positioned
-  sound-after n t h = kept-after s (λ u. Sound operations s (u .pen)) (λ u going held. sound-moved (u .pen) held) n t h
+  sound-after n t h = kept-after s (λ u. Sound operations s (u .pen)) sound-positioned n t h
 
 -- ---- validity
 
@@ -149,9 +153,9 @@ either-true false b h = refl
 idle-counters : (c : Coprocessor) (d : Drawing) → unfinished d ≡ false → countersHold (c .operations) (c .dimensions) (c .steps) d ≡ true
 unfolding countersHold
 idle-counters c (Nothing stopped) e = refl
-idle-counters c (Line done) e = absurd (false≢true (sym e))
+idle-counters c (Line rose done) e = absurd (false≢true (sym e))
 idle-counters c (Codes count code done) e = absurd (false≢true (sym e))
-idle-counters c (Block column row) e = absurd (false≢true (sym e))
+idle-counters c (Block inside column row) e = absurd (false≢true (sym e))
 
 -- the counters of a valid record hold, in hand or not
 pub valid-counters : (c : Coprocessor) → validOf c ≡ true → countersHold (c .operations) (c .dimensions) (c .steps) (c .drawing) ≡ true
@@ -227,7 +231,7 @@ source-and-pattern c v =
     (map-reduced (c .maps) _ maps, map-reduced (c .maps) _ maps)
 
 pub ran-valid : (c : Coprocessor) (memory : List ℕ) (n : ℕ) → validOf c ≡ true → validOf (withPen c (ranOf c memory n .pen)) ≡ true
-unfolding ranOf begun
+unfolding ranOf begun setupOf
 ran-valid c memory n v = by (unfinished (c .drawing)) refl
   where
     maps : mapReduced (setupOf c .source) ≡ true × mapReduced (setupOf c .pattern) ≡ true
@@ -237,7 +241,7 @@ ran-valid c memory n v = by (unfinished (c .drawing)) refl
     by false e = rw (after-idle (setupOf c) n (begun (penOf c) memory) (idle-pen c e), with-pen-own c) v
     by true e =
         sound-valid c _ v (valid-going c v e .starts)
-        (sound-after (c .operations) (setupOf c) maps n (begun (penOf c) memory) (valid-sound c v e))
+        (sound-after (c .operations) (setupOf c) refl refl maps n (begun (penOf c) memory) (valid-sound c v e))
 
 pub run-valid : (c : Coprocessor) (memory : List ℕ) (n : ℕ) → validOf c ≡ true → validOf (runAnswer c memory n .coprocessor) ≡ true
 unfolding runAnswer

@@ -37,9 +37,9 @@ left-in-hand c valid hand =
 
 none-left : (dimensions : Point) (steps : ℕ) (drawing : Drawing) → unfinished drawing ≡ false → leftOf dimensions steps drawing ≡ 0
 none-left dimensions steps (Nothing stopped) idle = left-idle dimensions steps stopped
-none-left dimensions steps (Line done) idle = absurd (true≢false idle)
+none-left dimensions steps (Line rose done) idle = absurd (true≢false idle)
 none-left dimensions steps (Codes count code done) idle = absurd (true≢false idle)
-none-left dimensions steps (Block column row) idle = absurd (true≢false idle)
+none-left dimensions steps (Block inside column row) idle = absurd (true≢false idle)
 
 pub left-none : (c : Coprocessor) → validOf c ≡ true → leftIn c ≡ 0 ↔ unfinished (c .drawing) ≡ false
 left-none c valid = (λ none. by none (unfinished (c .drawing)) refl, none-left (c .dimensions) (c .steps) (c .drawing))

@@ -1,6 +1,6 @@
 -- `run` is that many positions: at each turn the pen, the memory and the count are those of the positions done, and a drawing in hand is safe, as every move keeps it so.
-use mathlib.Core.Path.{_≡_, refl, sym, _∙_}
-use mathlib.Core.Bool.{true, _&&_}
+use mathlib.Core.Path.{_≡_, refl, sym, ap, _∙_}
+use mathlib.Core.Bool.{Bool, true, _&&_}
 use Prim.Native.Nat.{_+_, _-_, _≤_, _<_, zero-le}
 use native.Mathlib.Omega.{arith}
 use lib.ListN.{length}
@@ -8,9 +8,11 @@ use lib.Dec.{ltb}
 use borrow.Author.Needs.{needs}
 use borrow.Author.Tests.{ltb-true}
 use Rattle.numbers.proofs.Choices.{and-left, and-right}
-use Rattle.parts.specs.Drawings.{unfinished}
+use Rattle.parts.specs.Drawings.{unfinished, withInside}
+use Rattle.moves.specs.Moves.{penWith, moved}
+use Rattle.position.specs.Drawn.{crossed}
 use Rattle.position.specs.Inner.{Safe}
-use Rattle.position.proofs.Safety.{safe-within, safe-moved}
+use Rattle.position.proofs.Safety.{safe-within, safe-with, safe-moved}
 use Rattle.runs.specs.Runs.{Run, begun, positioned, after}
 use Rattle.runs.proofs.AfterLaws.{after-stop, after-on, parts}
 use Rattle.runs.proofs.run.Statement.{statement}
@@ -43,7 +45,8 @@ loop-holds c = (zero-le, refl, refl, c .is-unfinished .ensures, λ going. c .bef
 draw-requires : tie.Need-draw-requires Inv-loop μ-loop
 draw-requires c κs =
     let at = c .before .before .loop in
-    rw (at .inv .1) (safe-within _ _ _ (at .inv .4 (turn (c .before) .1)))
+    let safe = at .inv .4 (turn (c .before) .1) in
+    (safe .crossing, rw (at .inv .1) (safe-within _ _ _ safe))
 
 next-requires : tie.Need-next-requires Inv-loop μ-loop
 next-requires c κs = c .before .before .before .before .before .loop .inv .4 (turn (c .before .before .before .before) .1) .pointers
@@ -58,18 +61,20 @@ loop-less : tie.Need-loop-less Inv-loop μ-loop
 loop-less c = omega (arith, turn (c .before .before .before .before .before .before) .0)
 
 loop-again : tie.Need-loop-again Inv-loop μ-loop
-unfolding positioned
+unfolding positioned crossed
 loop-again c =
     let at = c .before .before .before .before .before .before .before .loop in
     let test = turn (c .before .before .before .before .before .before) in
     let drawn = c .before .before .before .before .draw in
     let next = c .before .next .ensures in
+    let s = c .before .before .before .before .before .before .before .before .before .before .args .setup in
+    let gone = next ∙ ap (λ (inside : Bool). moved s (penWith (withInside inside (at .pen .drawing)) (at .pen))) (drawn .ensures .0) in
     let u : Run = record { pen = at .pen; memory = at .memory; done = at .done } in (
       omega (arith, test .0),
       drawn .kept .1 .0 ∙ at .inv .1,
-      after-on _ _ _ u (at .inv .2) (sym (at .inv .3) ∙ test .1) ∙ λ i. record { pen = sym next i; memory = sym (drawn .ensures) i; done = at .done + 1 },
+      after-on _ _ _ u (at .inv .2) (sym (at .inv .3) ∙ test .1) ∙ λ i. record { pen = sym gone i; memory = sym (drawn .ensures .1) i; done = at .done + 1 },
       c .is-unfinished2 .ensures,
-      λ more. rw next (safe-moved _ _ _ (at .inv .4 (test .1))),
+      λ more. rw next (safe-moved _ _ _ (safe-with _ _ _ _ (at .inv .4 (test .1)))),
     )
 
 same-length : tie.Need-same-length Inv-loop μ-loop

@@ -2,7 +2,7 @@
 use Rattle.coprocessor.specs.Runs.{setupOf}
 use Rattle.rules.specs.Maps.{mapAt}
 use mathlib.Core.Path.{ap, _∙_}
-use mir.Syntax.{w32}
+use mir.Syntax.{w16, w32}
 use mir.Val.{SFits}
 use mir.ValLaws.{toZ-ofZ}
 use borrow.Author.Needs.{needs}
@@ -36,11 +36,39 @@ map-at-requires-3 c κs = search needs
 array-copy-out-mask : tie.Need-array-copy-out-mask
 array-copy-out-mask c = search needs
 
+edge-of-requires : tie.Need-edge-of-requires
+edge-of-requires c κs = search needs
+
 returns : tie.Need-returns
 unfolding setupOf mapAt
-returns c = let k1 : SFits w32 (c .before .before .before .before .before .before .before .before .before .before .before .before .before .before .before .before .before .args .self .terms .k1) = search needs in
-    let k2 : SFits w32 (c .before .before .before .before .before .before .before .before .before .before .before .before .before .before .before .before .before .args .self .terms .k2) = search needs in
-    λ i. record { course = c .before .before .before .before .before .before .before .before .before .before .before .before .before .before .before .course-of .ensures i; flow = c .before .before .before .before .before .before .before .before .before .before .before .before .before .before .flow-of .ensures i; destination = (c .before .before .before .before .before .before .before .before .before .before .before .before .map-at .ensures ∙ ap (mapAt (c .before .before .before .before .before .before .before .before .before .before .before .before .before .before .before .before .before .args .self .maps)) (c .before .before .before .before .before .before .before .before .before .before .before .before .before .destination-field .ensures)) i; source = (c .before .before .before .before .before .before .before .before .before .before .map-at2 .ensures ∙ ap (mapAt (c .before .before .before .before .before .before .before .before .before .before .before .before .before .before .before .before .before .args .self .maps)) (c .before .before .before .before .before .before .before .before .before .before .before .source-field .ensures)) i; pattern = (c .before .before .before .before .before .before .before .before .map-at3 .ensures ∙ ap (mapAt (c .before .before .before .before .before .before .before .before .before .before .before .before .before .before .before .before .before .args .self .maps)) (c .before .before .before .before .before .before .before .before .before .pattern-field .ensures)) i; mask = mapAt (c .before .before .before .before .before .before .before .before .before .before .before .before .before .before .before .before .before .args .self .maps) 0; foreground = c .before .before .before .before .before .before .before .before .before .before .before .before .before .before .before .before .before .args .self .foreground; background = c .before .before .before .before .before .before .before .before .before .before .before .before .before .before .before .before .before .args .self .background; compare = c .before .before .before .before .before .before .before .before .before .before .before .before .before .before .before .before .before .args .self .compare; planes = c .before .before .before .before .before .before .before .before .before .before .before .before .before .before .before .before .before .args .self .planes; origin = c .before .before .before .before .before .before .before .before .before .before .before .before .before .before .before .before .before .args .self .origin; dimensions = c .before .before .before .before .before .before .before .before .before .before .before .before .before .before .before .before .before .args .self .dimensions; steps = c .before .before .before .before .before .before .before .before .before .before .before .before .before .before .before .before .before .args .self .steps; k1 = toZ-ofZ w32 (c .before .before .before .before .before .before .before .before .before .before .before .before .before .before .before .before .before .args .self .terms .k1) k1 i; k2 = toZ-ofZ w32 (c .before .before .before .before .before .before .before .before .before .before .before .before .before .before .before .before .before .args .self .terms .k2) k2 i }
+returns c =
+    let edge = c .before in
+    let pattern = edge .before .before .before .before .before .before .before .before in
+    let source = pattern .before .before in
+    let destination = source .before .before in
+    let flow = destination .before .before in
+    let self = flow .before .before .before .args .self in
+    let k1 : SFits w32 (self .terms .k1) = search (needs, c .struct-told .given) in
+    let k2 : SFits w32 (self .terms .k2) = search (needs, c .struct-told .given) in
+    let low : SFits w16 (edge .edge-of .result) = search (needs, c .struct-told .given) in
+    λ i. record {
+      course = flow .before .course-of .ensures i;
+      flow = flow .flow-of .ensures i;
+      destination = (destination .map-at .ensures ∙ ap (mapAt (self .maps)) (destination .before .destination-field .ensures)) i;
+      source = (source .map-at2 .ensures ∙ ap (mapAt (self .maps)) (source .before .source-field .ensures)) i;
+      pattern = (pattern .map-at3 .ensures ∙ ap (mapAt (self .maps)) (pattern .before .pattern-field .ensures)) i;
+      mask = mapAt (self .maps) 0;
+      foreground = self .foreground;
+      background = self .background;
+      compare = self .compare;
+      planes = self .planes;
+      origin = self .origin;
+      dimensions = self .dimensions;
+      steps = self .steps;
+      k1 = toZ-ofZ w32 (self .terms .k1) k1 i;
+      k2 = toZ-ofZ w32 (self .terms .k2) k2 i;
+      edge = (toZ-ofZ w16 (edge .edge-of .result) low ∙ edge .edge-of .ensures) i;
+    }
 
 pub setup-spec : {M : Type 1} → statement M
 setup-spec =
@@ -55,4 +83,5 @@ setup-spec =
     pattern-field-requires
     map-at-requires-3
     array-copy-out-mask
+    edge-of-requires
     returns)

@@ -19,18 +19,40 @@ is-line-requires c κs = search needs
 
 returns-3 : tie.Need-returns-3
 unfolding drawingOf
-returns-3 c = simp (ne-eqb _ _ (c .before .before .before .before .if1 .left), ne-eqb _ _ (c .before .before .if2 .left), sym (c .before .is-line .ensures) ∙ c .if3 .taken)
+returns-3 c =
+    let line = c .before .before in
+    let other = line .before in
+    rw
+    (ne-eqb _ _ (other .before .before .if1 .left), ne-eqb _ _ (other .if2 .left), sym (line .is-line .ensures) ∙ c .before .if3 .taken)
 
 is-codes-requires : tie.Need-is-codes-requires
 is-codes-requires c κs = search needs
 
 returns-4 : tie.Need-returns-4
 unfolding drawingOf
-returns-4 c = simp (ne-eqb _ _ (c .before .before .before .before .before .before .if1 .left), ne-eqb _ _ (c .before .before .before .before .if2 .left), sym (c .before .before .before .is-line .ensures) ∙ c .before .before .if3 .left, sym (c .before .is-codes .ensures) ∙ c .if4 .taken)
+returns-4 c =
+    let codes = c .before in
+    let line = codes .before .before in
+    let other = line .before in
+    rw (
+      ne-eqb _ _ (other .before .before .if1 .left),
+      ne-eqb _ _ (other .if2 .left),
+      sym (line .is-line .ensures) ∙ codes .before .if3 .left,
+      sym (codes .is-codes .ensures) ∙ c .if4 .taken,
+    )
 
 returns-5 : tie.Need-returns-5
 unfolding drawingOf
-returns-5 c = simp (ne-eqb _ _ (c .before .before .before .before .before .before .if1 .left), ne-eqb _ _ (c .before .before .before .before .if2 .left), sym (c .before .before .before .is-line .ensures) ∙ c .before .before .if3 .left, sym (c .before .is-codes .ensures) ∙ c .if4 .left)
+returns-5 c =
+    let codes = c .before .before in
+    let line = codes .before .before in
+    let other = line .before in
+    rw (
+      ne-eqb _ _ (other .before .before .if1 .left),
+      ne-eqb _ _ (other .if2 .left),
+      sym (line .is-line .ensures) ∙ codes .before .if3 .left,
+      sym (codes .is-codes .ensures) ∙ c .before .if4 .left,
+    )
 
 pub drawing-of-spec : {M : Type 1} → statement M
 drawing-of-spec =

@@ -1,6 +1,6 @@
 -- `course_of` is the definition, field by field: each call gives its field.
-use borrow.Author.Needs.{needs}
 use Rattle.moves.specs.Decoded.{courseOf}
+use borrow.Author.Needs.{needs}
 use Rattle.moves.proofs.decoded.course_of.Statement.{statement}
 use Rattle.moves.proofs.decoded.course_of.Tie as tie
 
@@ -19,9 +19,12 @@ sign-of-requires-2 c κs = search needs
 is-read-requires : tie.Need-is-read-requires
 is-read-requires c κs = search needs
 
+mode-of-requires : tie.Need-mode-of-requires
+mode-of-requires c κs = search needs
+
 returns : tie.Need-returns
 unfolding courseOf
-returns c = rw (c .is-read .ensures, c .before .sign-of2 .ensures, c .before .before .sign-of .ensures, c .before .before .before .octant-of .ensures, c .before .before .before .before .function-of .ensures)
+returns c = rw (c .mode-of .ensures, c .before .is-read .ensures, c .before .before .sign-of2 .ensures, c .before .before .before .sign-of .ensures, c .before .before .before .before .octant-of .ensures, c .before .before .before .before .before .function-of .ensures)
 
 pub course-of-spec : {M : Type 1} → statement M
 course-of-spec =
@@ -32,4 +35,5 @@ course-of-spec =
     sign-of-requires
     sign-of-requires-2
     is-read-requires
+    mode-of-requires
     returns)

@@ -1,6 +1,8 @@
 -- `flow_of` is the definition, field by field: each call gives its field, and both modes are below 4.
-use borrow.Author.Needs.{needs}
 use Rattle.moves.specs.Decoded.{flowOf}
+use native.Mathlib.Omega.{arith}
+use Rattle.rules.proofs.ModeLaws.{mode-lt}
+use borrow.Author.Needs.{needs}
 use Rattle.moves.proofs.decoded.flow_of.Statement.{statement}
 use Rattle.moves.proofs.decoded.flow_of.Tie as tie
 
@@ -25,15 +27,30 @@ mask-mode-requires c κs = search needs
 cast-t11 : tie.Need-cast-t11
 cast-t11 c = search needs
 
-drawing-mode-requires : tie.Need-drawing-mode-requires
-drawing-mode-requires c κs = search needs
+mode-of-requires : tie.Need-mode-of-requires
+mode-of-requires c κs = search needs
 
 cast-t13 : tie.Need-cast-t13
-cast-t13 c = search needs
+cast-t13 c = omega (arith, c .mode-of .ensures, mode-lt (c .before .before .before .before .before .before .before .args .operations))
+
+is-fill-requires : tie.Need-is-fill-requires
+is-fill-requires c κs = search needs
 
 returns : tie.Need-returns
 unfolding flowOf
-returns c = rw (c .drawing-mode .ensures, c .before .mask-mode .ensures, c .before .before .background-source .ensures, c .before .before .before .foreground-source .ensures, c .before .before .before .before .pattern-field .ensures, c .before .before .before .before .before .uses-pattern .ensures, c .before .before .before .before .before .before .uses-source .ensures)
+returns c =
+    let mask = c .before .before in
+    let source = mask .before .before in
+    rw (
+      c .is-fill .ensures,
+      c .before .mode-of .ensures,
+      mask .mask-mode .ensures,
+      mask .before .background-source .ensures,
+      source .foreground-source .ensures,
+      source .before .pattern-field .ensures,
+      source .before .before .uses-pattern .ensures,
+      source .before .before .before .uses-source .ensures,
+    )
 
 pub flow-of-spec : {M : Type 1} → statement M
 flow-of-spec =
@@ -46,6 +63,7 @@ flow-of-spec =
     background-source-requires
     mask-mode-requires
     cast-t11
-    drawing-mode-requires
+    mode-of-requires
     cast-t13
+    is-fill-requires
     returns)

@@ -3,14 +3,16 @@ use mathlib.Core.Path.{_≡_, _∙_, sym, ap}
 use mir.Syntax.{w32}
 use mir.ValLaws.{toZ-ofZ}
 use borrow.Author.Needs.{needs}
+use Rattle.parts.specs.Drawings.{withInside}
 use Rattle.moves.specs.declared.Way.{Way}
-use Rattle.moves.specs.Moves.{moved}
+use Rattle.moves.specs.Moves.{penWith, moved}
 use Rattle.moves.specs.Inner.{gone}
 use Rattle.moves.proofs.passage.next.Statement.{statement}
 use Rattle.moves.proofs.passage.next.Tie as tie
 
 -- the pen goes the way that it is known to be
-known : (c : tie.After-way-of) {w : Way} → c .way-of .result ≡ w → gone (c .before .args .setup) w (c .before .args .pen) ≡ moved (c .before .args .setup) (c .before .args .pen)
+known : (c : tie.After-way-of) {w : Way} → let a = c .before .args in
+    c .way-of .result ≡ w → gone (a .setup) w (a .pen) ≡ moved (a .setup) (penWith (withInside (a .inside) (a .pen .drawing)) (a .pen))
 known c e = ap (λ w. gone (c .before .args .setup) w (c .before .args .pen)) (sym e) ∙ c .way-of .ensures
 
 way-of-requires : tie.Need-way-of-requires

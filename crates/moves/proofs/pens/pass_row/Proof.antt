@@ -14,13 +14,13 @@ use Rattle.moves.proofs.pens.pass_row.Statement.{statement}
 use Rattle.moves.proofs.pens.pass_row.Tie as tie
 
 -- the destination has 16 bits, and E 32
-across : (c : tie.After-struct-told) → SFits w16 (c .before .before .before .before .before .before .before .args .pen .destination .x)
+across : (c : tie.After-struct-told) → SFits w16 (c .before .before .before .before .before .before .args .pen .destination .x)
 across c = search (needs, c .struct-told .given)
 
-down : (c : tie.After-struct-told) → SFits w16 (c .before .before .before .before .before .before .before .args .pen .destination .y)
+down : (c : tie.After-struct-told) → SFits w16 (c .before .before .before .before .before .before .args .pen .destination .y)
 down c = search (needs, c .struct-told .given)
 
-error : (c : tie.After-struct-told) → SFits w32 (c .before .before .before .before .before .before .before .args .pen .e)
+error : (c : tie.After-struct-told) → SFits w32 (c .before .before .before .before .before .before .args .pen .e)
 error c = search (needs, c .struct-told .given)
 
 -- used pointers lie in their maps
@@ -31,16 +31,16 @@ pattern-inside : (c : tie.Start) → c .args .setup .flow .pattern ≡ true → 
 pattern-inside c = pattern-in (c .args .setup) (c .args .pen) (c .pre)
 
 return-used-requires : tie.Need-return-used-requires
-return-used-requires c κs = λ used. inside-x _ _ (source-inside (c .before .before) used)
+return-used-requires c κs = λ used. inside-x _ _ (source-inside (c .before) used)
 
 turn-used-requires : tie.Need-turn-used-requires
-turn-used-requires c κs = λ used. inside-y _ _ (source-inside (c .before .before .before) used)
+turn-used-requires c κs = λ used. inside-y _ _ (source-inside (c .before .before) used)
 
 return-used-requires-2 : tie.Need-return-used-requires-2
-return-used-requires-2 c κs = λ used. inside-x _ _ (pattern-inside (c .before .before .before .before) used)
+return-used-requires-2 c κs = λ used. inside-x _ _ (pattern-inside (c .before .before .before) used)
 
 turn-used-requires-2 : tie.Need-turn-used-requires-2
-turn-used-requires-2 c κs = λ used. inside-y _ _ (pattern-inside (c .before .before .before .before .before) used)
+turn-used-requires-2 c κs = λ used. inside-y _ _ (pattern-inside (c .before .before .before .before) used)
 
 return-by-requires : tie.Need-return-by-requires
 return-by-requires c κs = search needs
@@ -53,7 +53,7 @@ circle-by-requires c κs = search needs
 
 returns : tie.Need-returns
 unfolding rowPoint rowSpot rowPassed
-returns c = let a = c .before .before .before .before .before .before .before .before .before .before .before .before .args in
+returns c = let a = c .before .before .before .before .before .before .before .before .before .before .before .args in
     rw (
       toZ-ofZ w16 (c .before .circle-by .result) (record { sfits = c .before .circle-by .ok }),
       toZ-ofZ w16 (c .before .before .before .before .return-by .result) (record { sfits = c .before .before .before .before .return-by .ok }),

@@ -16,10 +16,10 @@ use Rattle.moves.proofs.pens.step_pen.Statement.{statement}
 use Rattle.moves.proofs.pens.step_pen.Tie as tie
 
 -- the destination has 16 bits
-across : (c : tie.After-struct-told) → SFits w16 (c .before .before .before .before .before .before .args .pen .destination .x)
+across : (c : tie.After-struct-told) → SFits w16 (c .before .before .before .before .before .args .pen .destination .x)
 across c = search (needs, c .struct-told .given)
 
-down : (c : tie.After-struct-told) → SFits w16 (c .before .before .before .before .before .before .args .pen .destination .y)
+down : (c : tie.After-struct-told) → SFits w16 (c .before .before .before .before .before .args .pen .destination .y)
 down c = search (needs, c .struct-told .given)
 
 -- used pointers lie in their maps
@@ -30,16 +30,16 @@ pattern-inside : (c : tie.Start) → c .args .setup .flow .pattern ≡ true → 
 pattern-inside c = pattern-in (c .args .setup) (c .args .pen) (c .pre)
 
 turn-used-requires : tie.Need-turn-used-requires
-turn-used-requires c κs = λ used. inside-x _ _ (source-inside (c .before) used)
+turn-used-requires c κs = λ used. inside-x _ _ (source-inside c used)
 
 turn-used-requires-2 : tie.Need-turn-used-requires-2
-turn-used-requires-2 c κs = λ used. inside-y _ _ (source-inside (c .before .before) used)
+turn-used-requires-2 c κs = λ used. inside-y _ _ (source-inside (c .before) used)
 
 turn-used-requires-3 : tie.Need-turn-used-requires-3
-turn-used-requires-3 c κs = λ used. inside-x _ _ (pattern-inside (c .before .before .before) used)
+turn-used-requires-3 c κs = λ used. inside-x _ _ (pattern-inside (c .before .before) used)
 
 turn-used-requires-4 : tie.Need-turn-used-requires-4
-turn-used-requires-4 c κs = λ used. inside-y _ _ (pattern-inside (c .before .before .before .before) used)
+turn-used-requires-4 c κs = λ used. inside-y _ _ (pattern-inside (c .before .before .before) used)
 
 circle-by-requires : tie.Need-circle-by-requires
 circle-by-requires c κs = search needs
@@ -49,10 +49,10 @@ circle-by-requires-2 c κs = search needs
 
 returns : tie.Need-returns
 unfolding pointStepped spotStepped penStepped
-returns c = let a = c .before .before .before .before .before .before .before .before .before .args in
+returns c = let a = c .before .before .before .before .before .before .before .before .args in
     let from : Step = record { x = a .from-x; y = a .from-y } in
     rw (
-      toZ-ofZ w32 (a .e) (c .before .before .before .before .before .before .before .before .before .fits .e),
+      toZ-ofZ w32 (a .e) (c .before .before .before .before .before .before .before .before .fits .e),
       toZ-ofZ w16 (c .circle-by2 .result) (record { sfits = c .circle-by2 .ok }),
       toZ-ofZ w16 (c .before .before .circle-by .result) (record { sfits = c .before .before .circle-by .ok }),
       c .circle-by2 .ensures,

@@ -3,14 +3,14 @@ use native.Mathlib.Omega.{arith}
 use mir.Syntax.{w32}
 use mir.ValLaws.{toZ-ofZ}
 use borrow.Author.Tests.{lt-ltb, le-ltb}
-use borrow.Author.Needs.{needs}
 use Rattle.moves.specs.Moves.{columnPassed, blockMoved}
 use Rattle.moves.specs.Inner.{gone}
+use borrow.Author.Needs.{needs}
 use Rattle.moves.proofs.ways.block_way.Statement.{statement}
 use Rattle.moves.proofs.ways.block_way.Tie as tie
 
-add-t11 : tie.Need-add-t11
-add-t11 c = omega (arith, c .if1 .taken, c .before .struct-known .given)
+add-t12 : tie.Need-add-t12
+add-t12 c = omega (arith, c .if1 .taken, c .before .struct-known .given)
 
 row-after-requires : tie.Need-row-after-requires
 row-after-requires c κs = search needs
@@ -24,4 +24,4 @@ unfolding gone blockMoved
 returns-2 c = rw (le-ltb _ _ (c .before .if1 .left), c .row-after .ensures)
 
 pub block-way-spec : {M : Type 1} → statement M
-block-way-spec = tie.close (tie.spec add-t11 row-after-requires returns returns-2)
+block-way-spec = tie.close (tie.spec add-t12 row-after-requires returns returns-2)

@@ -3,9 +3,9 @@ use native.Mathlib.Omega.{arith}
 use mir.Syntax.{w32}
 use mir.ValLaws.{toZ-ofZ}
 use borrow.Author.Tests.{lt-ltb, le-ltb}
-use borrow.Author.Needs.{needs}
 use Rattle.moves.specs.Moves.{penGone, lineMoved}
 use Rattle.moves.specs.Inner.{gone}
+use borrow.Author.Needs.{needs}
 use Rattle.moves.proofs.ways.line_way.Statement.{statement}
 use Rattle.moves.proofs.ways.line_way.Tie as tie
 
@@ -18,12 +18,26 @@ line-error-requires c κs = search needs
 add-t9 : tie.Need-add-t9
 add-t9 c = omega (arith, c .before .before .before .before .if1 .taken, c .before .before .before .before .before .struct-known .given)
 
+rises-requires : tie.Need-rises-requires
+rises-requires c κs = search needs
+
 way-along-requires : tie.Need-way-along-requires
 way-along-requires c κs = search needs
 
 returns : tie.Need-returns
 unfolding gone penGone lineMoved
-returns c = rw (lt-ltb _ _ (c .before .before .before .before .before .if1 .taken), c .way-along .ensures, toZ-ofZ w32 (c .before .line-error .result) (record { sfits = c .before .line-error .ok }), c .before .line-error .ensures, c .before .before .before .line-step .ensures, toZ-ofZ w32 (c .before .before .before .before .before .before .before .before .args .pen .e) (search needs))
+returns c =
+    let error = c .before .before .before in
+    let e = toZ-ofZ w32 (c .before .before .before .before .before .before .before .before .before .before .args .pen .e) (search needs) in
+    rw (
+      lt-ltb _ _ (c .before .before .before .before .before .before .before .if1 .taken),
+      c .way-along .ensures,
+      c .before .rises .ensures,
+      toZ-ofZ w32 (error .line-error .result) (record { sfits = error .line-error .ok }),
+      error .line-error .ensures,
+      error .before .before .line-step .ensures,
+      e,
+    )
 
 returns-2 : tie.Need-returns-2
 unfolding gone lineMoved
@@ -32,4 +46,11 @@ returns-2 c = rw (le-ltb _ _ (c .if1 .left))
 pub line-way-spec : {M : Type 1} → statement M
 line-way-spec =
     tie.close
-    (tie.spec line-step-requires line-error-requires add-t9 way-along-requires returns returns-2)
+    (tie.spec
+    line-step-requires
+    line-error-requires
+    add-t9
+    rises-requires
+    way-along-requires
+    returns
+    returns-2)

@@ -22,10 +22,10 @@ source-picked c =
     (picked-read (a .setup) (a .memory .now) (a .pen) (isForeground (a .setup) (a .memory .now) (a .pen)) (inkOf (a .setup) (a .memory .now) (a .pen) .colour))
 
 source-pixel-requires : tie.Need-source-pixel-requires
-source-pixel-requires c κs = c .before .pre
+source-pixel-requires c κs = c .before .pre .0
 
 is-foreground-requires : tie.Need-is-foreground-requires
-is-foreground-requires c κs = (c .before .before .pre, c .source-pixel .ensures)
+is-foreground-requires c κs = (c .before .before .pre .0, c .before .before .pre .1, c .source-pixel .ensures)
 
 ink-of-requires : tie.Need-ink-of-requires
 ink-of-requires c κs = search needs

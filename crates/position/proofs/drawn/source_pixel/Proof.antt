@@ -11,7 +11,7 @@ reads-source-requires : tie.Need-reads-source-requires
 reads-source-requires c κs = search needs
 
 get-requires : tie.Need-get-requires
-get-requires c κs = c .before .before .before .before .pre .source (sym (c .before .reads-source .ensures) ∙ c .if1 .taken)
+get-requires c κs = c .before .before .before .pre .source (sym (c .before .reads-source .ensures) ∙ c .if1 .taken)
 
 returns : tie.Need-returns
 unfolding sourcePixel sourceRead

@@ -53,7 +53,9 @@ is-compared-requires : tie.Need-is-compared-requires
 is-compared-requires c κs = search needs
 
 mixed-pixel-requires : tie.Need-mixed-pixel-requires
-mixed-pixel-requires c κs = c .before .before .before .before .before .before .before .before .pre .0
+mixed-pixel-requires c κs =
+    let pre = c .before .before .before .before .before .before .before .before .pre in
+    (pre .0, pre .3)
 
 store-requires : tie.Need-store-requires
 store-requires c κs =

@@ -1,10 +1,15 @@
 -- `destination_of` is the destination's column and row: from the origin 0 a place is the destination itself.
 use lib.IntN.{+ℤ-idr}
+use mathlib.Core.Path.{_∙_}
 use mir.Syntax.{w16}
 use mir.ValLaws.{toZ-ofZ}
+use Rattle.position.specs.Places.{placeX}
 use borrow.Author.Needs.{needs}
 use Rattle.position.proofs.places.destination_of.Statement.{statement}
 use Rattle.position.proofs.places.destination_of.Tie as tie
+
+place-x-requires : tie.Need-place-x-requires
+place-x-requires c κs = search needs
 
 column-of-requires : tie.Need-column-of-requires
 column-of-requires c κs = search needs
@@ -14,10 +19,13 @@ column-of-requires-2 c κs = search needs
 
 returns : tie.Need-returns
 returns c =
-    let d = c .before .before .before .before .args .pen .destination in (
-      rw (c .before .before .column-of .ensures, toZ-ofZ w16 (d .x) (search needs), +ℤ-idr (d .x)),
-      rw (c .column-of2 .ensures, toZ-ofZ w16 (d .y) (search needs), +ℤ-idr (d .y)),
+    let a = c .before .before .before .before .args in
+    let place = c .before .before .before in
+    let across = toZ-ofZ w16 (place .place-x .result) (record { sfits = place .place-x .ok }) ∙ place .place-x .ensures in (
+      rw (c .before .before .column-of .ensures, across, +ℤ-idr (placeX (a .setup) (a .pen))),
+      rw (c .column-of2 .ensures, toZ-ofZ w16 (a .pen .destination .y) (search (needs, c .before .struct-told .given)), +ℤ-idr (a .pen .destination .y)),
     )
 
 pub destination-of-spec : {M : Type 1} → statement M
-destination-of-spec = tie.close (tie.spec column-of-requires column-of-requires-2 returns)
+destination-of-spec =
+    tie.close (tie.spec place-x-requires column-of-requires column-of-requires-2 returns)

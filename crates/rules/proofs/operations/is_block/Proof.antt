@@ -1,6 +1,6 @@
 -- `is_block` tests the function field as the definition does.
 use borrow.Author.Needs.{needs}
-use Rattle.rules.specs.Operations.{isBlock}
+use Rattle.rules.specs.Operations.{isFill, isBlock}
 use Rattle.rules.proofs.operations.is_block.Statement.{statement}
 use Rattle.rules.proofs.operations.is_block.Tie as tie
 
@@ -8,7 +8,7 @@ function-of-requires : tie.Need-function-of-requires
 function-of-requires c κs = search needs
 
 returns : tie.Need-returns
-unfolding isBlock
+unfolding isFill isBlock
 returns c = rw (c .function-of .ensures)
 
 pub is-block-spec : {M : Type 1} → statement M

@@ -1,6 +1,6 @@
 -- `fields_hold` is the definition's seven tests in their order, each by the function that decodes its field.
-use borrow.Author.Needs.{needs}
 use Rattle.rules.specs.Rules.{fieldsHold}
+use borrow.Author.Needs.{needs}
 use Rattle.rules.proofs.rules.fields_hold.Statement.{statement}
 use Rattle.rules.proofs.rules.fields_hold.Tie as tie
 
@@ -40,11 +40,11 @@ source-field-requires c κs = search needs
 is-map-requires-2 : tie.Need-is-map-requires-2
 is-map-requires-2 c κs = search needs
 
-is-block-requires : tie.Need-is-block-requires
-is-block-requires c κs = search needs
+is-fill-requires : tie.Need-is-fill-requires
+is-fill-requires c κs = search needs
 
-drawing-mode-requires : tie.Need-drawing-mode-requires
-drawing-mode-requires c κs = search needs
+fill-holds-requires : tie.Need-fill-holds-requires
+fill-holds-requires c κs = search needs
 
 returns : tie.Need-returns
 unfolding fieldsHold
@@ -55,7 +55,7 @@ returns c =
     let destination = pattern .before .before in
     let background = destination .before .before in
     let foreground = background .before .before in
-    rw (c .drawing-mode .ensures, c .before .is-block .ensures)
+    rw (c .fill-holds .ensures, c .before .is-fill .ensures)
     (rw (source .is-map2 .ensures, source .before .source-field .ensures, source .before .before .uses-source .ensures)
     (rw (mask .mask-mode .ensures, pattern .is-pattern .ensures, pattern .before .pattern-field .ensures)
     (rw (destination .is-map .ensures, destination .before .destination-field .ensures)
@@ -78,6 +78,6 @@ fields-hold-spec =
     uses-source-requires
     source-field-requires
     is-map-requires-2
-    is-block-requires
-    drawing-mode-requires
+    is-fill-requires
+    fill-holds-requires
     returns)

@@ -1,0 +1,98 @@
+-- The area boundary mode draws exactly the positions where the outline passes between two rows: a step's turn in Y is seen from the rows before and after it.
+use mathlib.Core.Path.{_≡_, refl, sym, ap, ap₂, _∙_}
+use mathlib.Core.Bool.{Bool, true, false, not, _&&_, _||_, or-false}
+use Prim.Native.Nat.{ℕ, zero, suc, _+_, _%_}
+use lib.Dec.{ltb, eqb}
+use lib.IntN.{ℤ}
+use Rattle.numbers.specs.Choose.{choose}
+use Rattle.parts.specs.declared.drawing.Drawing.{Drawing}
+use Rattle.parts.specs.Drawings.{unfinished}
+use Rattle.rules.specs.Starts.{codeAt}
+use Rattle.moves.specs.declared.Turn.{Turn}
+use Rattle.moves.specs.declared.Turn.the-variants.{Stay}
+use Rattle.moves.specs.declared.Step.{Step}
+use Rattle.moves.specs.declared.Setup.{Setup}
+use Rattle.moves.specs.declared.Pen.{Pen}
+use Rattle.moves.specs.Turns.{circledBy, spotStepped}
+use Rattle.moves.specs.Steps.{lineStep, codeStep, goesUp}
+use Rattle.moves.specs.Moves.{destinationBy, penStepped, penWith, penGone, lineMoved, codesMoved, movedBy, moved}
+use Rattle.moves.proofs.CircledLaws.{OnCircle, circled-on}
+use Rattle.moves.proofs.Counters.{drawing-moved}
+use Rattle.position.specs.Places.{isFirst, isLast, isNulled}
+use Rattle.areas.specs.Crossings.{penAfter, rowAfter, below, samePlace, crosses}
+use Rattle.areas.specs.Outlines.{atStart}
+use Rattle.areas.proofs.Rows.{goesDown, down-seen, up-seen}
+use Rattle.areas.proofs.Reached.{turnOf, Reached, none, line, first, next, start-reached, next-reached, boundary-turns}
+
+-- ---- the row after a position
+
+module _ (s : Setup) (write : s .course .read ≡ false) where
+  step-row : (t : Bool) (step : Step) (e : ℤ) (d d' : Drawing) (pen : Pen)
+      → choose t (penGone s step e d pen) (penWith d' pen) .destination .y ≡ circledBy (choose t (step .y) Stay) 1 (pen .destination .y)
+  unfolding penGone penStepped penWith destinationBy spotStepped circledBy
+  step-row true step e d d' pen = rw write
+  step-row false step e d d' pen = refl
+
+  -- the turn that leaves a position leads to the next row
+  row-moved : (pen : Pen) {turn : Turn} → Reached s turn (pen .drawing)
+      → moved s pen .destination .y ≡ circledBy (turnOf s (pen .e) (pen .drawing)) 1 (pen .destination .y)
+  unfolding moved movedBy lineMoved codesMoved turnOf circledBy
+  row-moved pen r = by r
+    where
+      by : {turn : Turn} {d : Drawing} → Reached s turn d → movedBy s d pen .destination .y ≡ circledBy (turnOf s (pen .e) d) 1 (pen .destination .y)
+      by none = refl
+      by (line {done} steps within) = step-row (ltb done (s .dimensions .x)) (lineStep (s .course) (pen .e)) _ _ _ pen
+      by (first {count} {code}) = step-row (ltb 0 (codeAt (s .steps) count code % 16)) (codeStep (codeAt (s .steps) count code)) _ _ _ pen
+      by (next {count} {code} {done} within) =
+          step-row (ltb (done + 1) (codeAt (s .steps) count code % 16)) (codeStep (codeAt (s .steps) count code)) _ _ _ pen
+
+-- ---- the rows of a drawing
+
+-- the turns that leave position n, and that led to it
+pub leaving : Setup → Pen → ℕ → Turn
+leaving s pen n = turnOf s (penAfter s n pen .e) (penAfter s n pen .drawing)
+
+pub leading : Setup → Pen → ℕ → Turn
+leading s pen zero = Stay
+leading s pen (suc n) = leaving s pen n
+
+-- in mode 11 neither first nor last is nulled
+boundary-mode : (mode : ℕ) → mode ≡ 3 → (a b c : Bool) → ((eqb mode 1 && a) || (eqb mode 2 && b) || (eqb mode 3 && c)) ≡ c
+boundary-mode mode e a b c = rw e
+
+module _ (s : Setup) (pen : Pen) (bounds : s .course .bounds ≡ true) (start : atStart (pen .drawing) ≡ true) where
+  pub reached-after : (n : ℕ) → Reached s (leading s pen n) (penAfter s n pen .drawing)
+  unfolding penAfter leading leaving
+  reached-after zero = start-reached s (pen .drawing) start
+  reached-after (suc n) = rw (drawing-moved s (penAfter s n pen)) (next-reached s bounds (penAfter s n pen .e) (reached-after n))
+
+module _ (s : Setup) (pen : Pen) (mode : s .flow .mode ≡ 3) (bounds : s .course .bounds ≡ true) (write : s .course .read ≡ false)
+    (start : atStart (pen .drawing) ≡ true) (on : OnCircle (pen .destination .y)) where
+  row-next : (n : ℕ) → rowAfter s (suc n) pen ≡ circledBy (leaving s pen n) 1 (rowAfter s n pen)
+  unfolding penAfter leaving
+  row-next n = row-moved s write (penAfter s n pen) (reached-after s pen bounds start n)
+
+  row-on : (n : ℕ) → OnCircle (rowAfter s n pen)
+  unfolding penAfter
+  row-on zero = on
+  row-on (suc n) = rw (row-next n) (circled-on (leaving s pen n) 1 (rowAfter s n pen) (row-on n))
+
+  down-after : (n : ℕ) → samePlace (rowAfter s (suc n) pen) (below (rowAfter s n pen)) ≡ goesDown (leaving s pen n)
+  down-after n = ap (λ (z : ℤ). samePlace z (below (rowAfter s n pen))) (row-next n) ∙ down-seen (rowAfter s n pen) (leaving s pen n)
+
+  up-after : (n : ℕ) → samePlace (rowAfter s n pen) (below (rowAfter s (suc n) pen)) ≡ goesUp (leaving s pen n)
+  up-after n =
+      ap (λ (z : ℤ). samePlace (rowAfter s n pen) (below z)) (row-next n) ∙ up-seen (rowAfter s n pen) (row-on n) (leaving s pen n)
+
+  crosses-turns : (n : ℕ) → crosses s pen n ≡ goesDown (leaving s pen n) || goesUp (leading s pen n)
+  unfolding crosses leading goesUp
+  crosses-turns zero = down-after 0 ∙ sym (or-false (goesDown (leaving s pen 0)))
+  crosses-turns (suc n) = ap₂ _||_ (down-after (suc n)) (up-after n)
+
+  -- 02, 102: of a line or codes of a write form the mode keeps back exactly the positions that do not cross; of a read form, whose destination stays in its
+  -- row, nothing is said here
+  pub boundary-drawn : (n : ℕ) → unfinished (penAfter s n pen .drawing) ≡ true → isNulled s (penAfter s n pen) ≡ not (crosses s pen n)
+  unfolding isNulled leaving
+  boundary-drawn n going =
+      boundary-mode (s .flow .mode) mode (isFirst (penAfter s n pen .drawing)) (isLast s (penAfter s n pen .drawing)) _
+      ∙ ap not (boundary-turns s (penAfter s n pen .e) (reached-after s pen bounds start n) going ∙ sym (crosses-turns n))

@@ -1,0 +1,12 @@
+pub mod Rows
+pub mod Reached
+pub mod Boundary
+pub mod Parities
+pub mod FillRows
+pub mod Filled
+pub mod Toggles
+pub mod Strokes
+pub mod Outlines
+pub mod FillColumns
+pub mod OutlineFilled
+pub mod Examples

@@ -1,0 +1,129 @@
+-- The parity of an outline: each of its strokes is set up to turn pixels, so all of them together turn a pixel as often as they cross there.
+use mathlib.Core.Path.{_≡_, refl, sym, ap, ap₂, subst, _∙_}
+use mathlib.Core.Bool.{Bool, true, false, _||_}
+use mathlib.Core.List.{List}
+use Prim.Native.Nat.{ℕ, _+_, _%_, _≤_, _<_}
+use native.Mathlib.Omega.{arith}
+use lib.Dec.{eqb}
+use lib.ListN.{length}
+use borrow.Author.Tests.{leb-true, eqb-true, eq-eqb}
+use Rattle.numbers.proofs.Choices.{choose-true, choose-false, and-left, and-right}
+use Rattle.pixels.specs.declared.Map.{Map}
+use Rattle.pixels.specs.Maps.{bitsOf, placeOf, neededOf}
+use Rattle.pixels.specs.Pixels.{pixelAt}
+use Rattle.pixels.proofs.Maps.{place-lt}
+use Rattle.pixels.proofs.Pixels.{pixel-lt}
+use Rattle.parts.specs.Drawings.{unfinished}
+use Rattle.parts.specs.Refusals.{isAccepted}
+use Rattle.parts.specs.Reduced.{spotReduced}
+use Rattle.parts.proofs.ReducedLaws.{destination-circle-fixed}
+use Rattle.rules.specs.Operations.{functionOf, isMap, isFill, isBlock, modeOf, usesPattern}
+use Rattle.rules.specs.Maps.{endHolds}
+use Rattle.moves.specs.Decoded.{courseOf, flowOf, edgeOf}
+use Rattle.moves.proofs.CircledLaws.{OnCircle}
+use Rattle.runs.specs.Runs.{begun}
+use Rattle.runs.proofs.RunLaws.{length-after}
+use Rattle.coprocessor.specs.declared.Coprocessor.{Coprocessor}
+use Rattle.coprocessor.specs.Valid.{pointersReduced, reducedOf, validOf}
+use Rattle.coprocessor.specs.Runs.{setupOf, penOf, ranOf, runRefusal, runMemory}
+use Rattle.coprocessor.proofs.SafeLaws.{valid-safe}
+use Rattle.areas.specs.Crossings.{crossings}
+use Rattle.areas.specs.Outlines.{Stroke, Strokes, none, more, wholeOf, outlined, crossingsOf}
+use Rattle.areas.proofs.Toggles.{Toggles}
+use Rattle.areas.proofs.Strokes.{toggled-after}
+
+-- ---- how a stroke is set up
+
+-- what is no code and line of a write form is neither of a read form, nor a block
+record Writes (function : ℕ) : Type 0 where
+  read : (eqb function 2 || eqb function 3) ≡ false
+  block : (eqb function 8 || eqb function 9 || eqb function 10) ≡ false
+
+writes : (function : ℕ) → (eqb function 4 || eqb function 5) ≡ true → Writes function
+writes function e = by (eqb function 4) refl e
+  where
+    by : (four : Bool) → eqb function 4 ≡ four → (four || eqb function 5) ≡ true → Writes function
+    by true f e = let same = eqb-true function 4 f in record { read = rw same; block = rw same }
+    by false f e = let same = eqb-true function 5 e in record { read = rw same; block = rw same }
+
+module _ (map : Map) (size : ℕ) (c : Coprocessor) (stroke : Stroke map size c) where
+  stroke-toggles : bitsOf (map .format) ≡ 1 → Toggles (setupOf c)
+  unfolding setupOf flowOf courseOf edgeOf modeOf isBlock isFill usesPattern isMap
+  stroke-toggles one =
+      let w = writes (functionOf (c .operations)) (stroke .function) in
+      let mode : modeOf (c .operations) ≡ 3 = choose-false _ _ (w .block) ∙ stroke .mode in
+      record {
+        bits = ap (λ (m : Map). bitsOf (m .format)) (stroke .destination) ∙ one;
+        write = w .read;
+        mode = mode;
+        bounds = eq-eqb _ 3 mode;
+        edge = choose-true _ _ (eq-eqb _ 3 mode);
+        mask = stroke .mask;
+        pattern = rw (stroke .pattern);
+        derived = rw (stroke .pattern);
+        source = rw (stroke .source);
+        mix = stroke .mix;
+        colour = stroke .colour;
+        condition = stroke .condition;
+        plane = stroke .plane;
+      }
+
+  -- a valid record's destination is on its circle, and its map ends within the memory
+  stroke-on : OnCircle (c .destination .y)
+  unfolding validOf reducedOf pointersReduced spotReduced
+  stroke-on = let v = stroke .valid in destination-circle-fixed (c .destination .y) (search (v, and-left, and-right))
+
+  stroke-held : unfinished (c .drawing) ≡ true → (x y : ℕ) → x ≤ map .width → y ≤ map .height → placeOf map x y < size
+  unfolding setupOf endHolds
+  stroke-held going x y across down =
+      let ends : endHolds size map ≡ true =
+      ap₂ endHolds (sym (stroke .memory)) (sym (stroke .destination)) ∙ valid-safe c (stroke .valid) going .destination in
+      omega (arith, place-lt map x y across down, leb-true (map .base + neededOf map) size ends)
+
+  -- ---- its run
+
+  run-accepted : (memory : List ℕ) → length memory ≡ size → isAccepted (runRefusal c memory) ≡ true
+  unfolding runRefusal
+  run-accepted memory same = simp (eq-eqb (length memory) (c .size) (same ∙ sym (stroke .memory)), stroke .valid)
+
+  run-memory : (memory : List ℕ) → length memory ≡ size → (n : ℕ) → runMemory c memory n ≡ ranOf c memory n .memory
+  unfolding runMemory
+  run-memory memory same n = choose-true _ _ (run-accepted memory same)
+
+  run-length : (memory : List ℕ) → length memory ≡ size → (n : ℕ) → length (runMemory c memory n) ≡ size
+  unfolding ranOf begun
+  run-length memory same n = ap length (run-memory memory same n) ∙ length-after (setupOf c) n (begun (penOf c) memory) ∙ same
+
+  run-toggles : bitsOf (map .format) ≡ 1 → (memory : List ℕ) → length memory ≡ size → (x y : ℕ) → x ≤ map .width → y ≤ map .height → (n : ℕ)
+      → pixelAt (runMemory c memory n) map x y ≡ (pixelAt memory map x y + crossings (setupOf c) (penOf c) x y n) % 2
+  unfolding ranOf setupOf penOf
+  run-toggles one memory same x y across down n =
+      ap (λ (m : List ℕ). pixelAt m map x y) (run-memory memory same n)
+      ∙ subst
+      (λ (m : Map).
+      x ≤ m .width → y ≤ m .height → (unfinished (c .drawing) ≡ true → placeOf m x y < length memory)
+      → pixelAt (ranOf c memory n .memory) m x y ≡ (pixelAt memory m x y + crossings (setupOf c) (penOf c) x y n) % 2) (stroke .destination)
+      (λ a d h. toggled-after (setupOf c) (stroke-toggles one) (penOf c) (stroke .start) stroke-on memory x y a d h n)
+      across down (λ going. rw same (stroke-held going x y across down))
+
+-- ---- all strokes
+
+module _ (map : Map) (size : ℕ) (one : bitsOf (map .format) ≡ 1) (x y : ℕ) (across : x ≤ map .width) (down : y ≤ map .height) where
+  outline-toggles : {cs : List Coprocessor} → Strokes map size cs → (memory : List ℕ) → length memory ≡ size
+      → pixelAt (outlined cs memory) map x y ≡ (pixelAt memory map x y + crossingsOf cs x y) % 2
+  unfolding outlined crossingsOf
+  outline-toggles none memory same = omega (arith, rw one at (pixel-lt memory map x y))
+  outline-toggles (more {c} {cs} stroke strokes) memory same =
+      let first = run-toggles map size c stroke one memory same x y across down (wholeOf c) in
+      outline-toggles strokes (runMemory c memory (wholeOf c)) (run-length map size c stroke memory same (wholeOf c)) ∙ omega arith
+
+-- 02, 102: drawn into a map of zeros an outline leaves 1 where it crosses an odd number of times, and 0 elsewhere
+pub outline-parity : (map : Map) (size : ℕ) (cs : List Coprocessor) (memory : List ℕ)
+    → Strokes map size cs → bitsOf (map .format) ≡ 1 → length memory ≡ size
+    → ((x y : ℕ) → x ≤ map .width → y ≤ map .height → pixelAt memory map x y ≡ 0)
+    → (x y : ℕ) → x ≤ map .width → y ≤ map .height
+    → pixelAt (outlined cs memory) map x y ≡ crossingsOf cs x y % 2
+outline-parity map size cs memory strokes one same clear x y across down =
+    let toggles = outline-toggles map size one x y across down strokes memory same in
+    let none = clear x y across down in
+    omega arith

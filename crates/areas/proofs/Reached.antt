@@ -1,0 +1,181 @@
+-- What the area boundary mode asks of a position, by the turns in Y: the turn that led to it went up, or the turn that leaves it goes down, because a
+-- line's bit keeps the first and a code's way tells both.
+use mathlib.Core.Path.{_≡_, refl}
+use mathlib.Core.Bool.{Bool, true, false, not, _&&_, _||_, false≢true, or-false}
+use Prim.Native.Nat.{ℕ, _+_, _%_, _≤_, _<_, zero-le}
+use native.Mathlib.Omega.{arith}
+use lib.Dec.{ltb, eqb}
+use lib.IntN.{ℤ, pos}
+use lib.Signed.{ltZ}
+use borrow.Author.Tests.{lt-ltb, le-ltb, ltb-true, eqb-true, eqb-false, ne-eqb, not-true}
+use Rattle.numbers.specs.Choose.{choose}
+use Rattle.numbers.proofs.Choices.{and-left, and-right}
+use Rattle.parts.specs.declared.drawing.Drawing.{Drawing}
+use Rattle.parts.specs.declared.drawing.Drawing.the-variants.{Nothing, Line, Codes, Block}
+use Rattle.parts.specs.Drawings.{unfinished}
+use Rattle.rules.specs.Starts.{codeAt}
+use Rattle.moves.specs.declared.Turn.{Turn}
+use Rattle.moves.specs.declared.Turn.the-variants.{Stay, Forth, Back}
+use Rattle.moves.specs.declared.Step.{Step}
+use Rattle.moves.specs.declared.Setup.{Setup}
+use Rattle.moves.specs.Steps.{lineStep, codeStep, movesRow, goesUp}
+use Rattle.moves.specs.Moves.{rises, codePassed}
+use Rattle.moves.proofs.Counters.{drawingAfter}
+use Rattle.position.specs.Places.{isFirst, isLast, ofRun, onBoundary}
+use Rattle.areas.specs.Outlines.{atStart}
+use Rattle.areas.proofs.Rows.{goesDown}
+
+-- ---- the turn that leaves a position
+
+-- how the row of a position of a line or codes goes to the next one's
+unfoldable pub turnOf : Setup → ℤ → Drawing → Turn
+turnOf s e (Nothing stopped) = Stay
+turnOf s e (Line rose done) = choose (ltb done (s .dimensions .x)) (lineStep (s .course) e .y) Stay
+turnOf s e (Codes count code done) = choose (ltb done (codeAt (s .steps) count code % 16)) (codeStep (codeAt (s .steps) count code) .y) Stay
+turnOf s e (Block inside column row) = Stay
+
+-- a position of a line or codes, or none, and the turn that led to it: none to the first, along the line's way in Y or level to the next of a line, the
+-- code's to the next of a code, and none from code to code
+pub data Reached (s : Setup) : Turn → Drawing → Type 0 where
+  none : {turn : Turn} {stopped : Bool} → Reached s turn (Nothing stopped)
+  line : {done : ℕ} (steps : Bool) → done ≤ s .dimensions .x
+      → Reached s (choose steps (s .course .y) Stay) (Line (goesUp (choose steps (s .course .y) Stay)) done)
+  first : {count code : ℕ} → Reached s Stay (Codes count code 0)
+  next : {count code done : ℕ} → done < codeAt (s .steps) count code % 16
+      → Reached s (codeStep (codeAt (s .steps) count code) .y) (Codes count code (done + 1))
+
+module _ (s : Setup) where
+  pub start-reached : (d : Drawing) → atStart d ≡ true → Reached s Stay d
+  unfolding atStart goesUp
+  start-reached (Nothing stopped) e = none
+  start-reached (Line rose done) e =
+      let zeroth : done ≡ 0 = eqb-true done 0 (and-left (eqb done 0) (not rose) e) in
+      let level : rose ≡ false = not-true rose (and-right (eqb done 0) (not rose) e) in
+      rw (zeroth, level) (line false zero-le)
+  start-reached (Codes count code done) e =
+      let zeroth : done ≡ 0 = eqb-true done 0 (and-right (eqb code 0) (eqb done 0) e) in
+      rw zeroth first
+  start-reached (Block inside column row) e = absurd (false≢true e)
+
+  -- a step of a line goes its way in Y or stays in its row
+  along : ℤ → Bool
+  along e = not (ltZ e (pos 0)) || s .course .steep
+
+  line-turn : (e : ℤ) → lineStep (s .course) e .y ≡ choose (along e) (s .course .y) Stay
+  unfolding lineStep along
+  line-turn e = by (ltZ e (pos 0)) (s .course .steep)
+    where
+      by : (low steep : Bool)
+          → choose {A = Step} low (choose steep (record { x = Stay; y = s .course .y }) (record { x = s .course .x; y = Stay }))
+          (record { x = s .course .x; y = s .course .y }) .y
+          ≡ choose (not low || steep) (s .course .y) Stay
+      by true true = refl
+      by true false = refl
+      by false steep = refl
+
+  code-reached : (count code done : ℕ)
+      → Reached s (turnOf s (pos 0) (Codes count code done)) (drawingAfter (s .dimensions) (s .steps) false (Codes count code done))
+  unfolding turnOf drawingAfter codePassed
+  code-reached count code done = by (ltb done (codeAt (s .steps) count code % 16)) refl
+    where
+      passed : (more stops : Bool)
+          → Reached s Stay (choose more (choose stops (Nothing true) (Codes count (code + 1) 0)) (Nothing false))
+      passed true true = none
+      passed true false = first
+      passed false stops = none
+
+      by : (t : Bool) → ltb done (codeAt (s .steps) count code % 16) ≡ t
+          → Reached s (choose t (codeStep (codeAt (s .steps) count code) .y) Stay)
+          (choose t (Codes count code (done + 1)) (codePassed (s .steps) count code))
+      by true less = next (ltb-true done (codeAt (s .steps) count code % 16) less)
+      by false more = passed (ltb (code + 1) count) (eqb (codeAt (s .steps) count (code + 1)) 0)
+
+  module _ (bounds : s .course .bounds ≡ true) where
+    line-bit : (e : ℤ) → rises s e ≡ goesUp (lineStep (s .course) e .y)
+    unfolding rises
+    line-bit e = rw bounds
+
+    -- so is the position after it
+    pub next-reached : (e : ℤ) {turn : Turn} {d : Drawing} → Reached s turn d
+        → Reached s (turnOf s e d) (drawingAfter (s .dimensions) (s .steps) (rises s e) d)
+    unfolding turnOf drawingAfter
+    next-reached e none = none
+    next-reached e (line {done} steps within) = by (ltb done (s .dimensions .x)) refl
+      where
+        by : (t : Bool) → ltb done (s .dimensions .x) ≡ t
+            → Reached s (choose t (lineStep (s .course) e .y) Stay) (choose t (Line (rises s e) (done + 1)) (Nothing false))
+        by true less = rw (line-bit e, line-turn e) (line {done = done + 1} (along e) (omega (arith, ltb-true done (s .dimensions .x) less)))
+        by false more = none
+    next-reached e (first {count} {code}) = code-reached count code 0
+    next-reached e (next {count} {code} {done} within) = code-reached count code (done + 1)
+
+-- ---- what the mode asks of a position
+
+-- on the line's way down it is the last of its run, on the way up the first; level neither
+down-run : (steps last : Bool) → (not last && movesRow (choose steps Forth Stay)) ≡ goesDown (choose (not last) (choose steps Forth Stay) Stay)
+unfolding movesRow goesDown
+down-run steps true = refl
+down-run true false = refl
+down-run false false = refl
+
+never-up : (steps : Bool) → goesUp (choose steps Forth Stay) ≡ false
+unfolding goesUp
+never-up true = refl
+never-up false = refl
+
+never-down : (steps last : Bool) → goesDown (choose (not last) (choose steps Back Stay) Stay) ≡ false
+unfolding goesDown
+never-down steps true = refl
+never-down true false = refl
+never-down false false = refl
+
+level : (t : Bool) → choose t Stay Stay ≡ Stay
+level true = refl
+level false = refl
+
+line-run : (way : Turn) (came goes last : Bool)
+    → ofRun way (goesUp (choose came way Stay)) (not last && movesRow (choose goes way Stay))
+    ≡ goesDown (choose (not last) (choose goes way Stay) Stay) || goesUp (choose came way Stay)
+unfolding ofRun goesDown goesUp
+line-run Stay came goes last = rw (level came, level goes, level (not last))
+line-run Forth came goes last = rw (never-up came, or-false) (down-run goes last)
+line-run Back came goes last = rw (never-down goes last)
+
+-- the first of a code, and one after it
+code-first : (way : Turn) (last : Bool) → ofRun way false (not last) ≡ goesDown (choose (not last) way Stay) || false
+unfolding ofRun goesDown
+code-first Stay last = rw (level (not last))
+code-first Forth true = refl
+code-first Forth false = refl
+code-first Back true = refl
+code-first Back false = refl
+
+code-next : (way : Turn) (last : Bool) → ofRun way true (not last) ≡ goesDown (choose (not last) way Stay) || goesUp way
+unfolding ofRun goesDown goesUp
+code-next Stay last = rw (level (not last))
+code-next Forth true = refl
+code-next Forth false = refl
+code-next Back true = refl
+code-next Back false = refl
+
+-- up to a last one, another is left unless this is the last
+another : (done last : ℕ) → done ≤ last → ltb done last ≡ not (eqb done last)
+another done last h = by (eqb done last) refl
+  where
+    by : (t : Bool) → eqb done last ≡ t → ltb done last ≡ not t
+    by true e = le-ltb done last (omega (arith, eqb-true done last e))
+    by false e = lt-ltb done last (omega (arith, eqb-false done last e))
+
+module _ (s : Setup) where
+  -- a position is drawn where the turn that leaves it goes down, or the turn that led to it went up
+  pub boundary-turns : (e : ℤ) {turn : Turn} {d : Drawing} → Reached s turn d → unfinished d ≡ true
+      → onBoundary s e d ≡ goesDown (turnOf s e d) || goesUp turn
+  unfolding turnOf onBoundary isFirst isLast goesUp
+  boundary-turns e none going = absurd (false≢true going)
+  boundary-turns e (line {done} steps within) going =
+      rw (line-turn s e, another done (s .dimensions .x) within) (line-run (s .course .y) steps (along s e) (eqb done (s .dimensions .x)))
+  boundary-turns e (first {count} {code}) going =
+      rw (another 0 (codeAt (s .steps) count code % 16) zero-le) (code-first _ (eqb 0 (codeAt (s .steps) count code % 16)))
+  boundary-turns e (next {count} {code} {done} within) going =
+      rw (another (done + 1) (codeAt (s .steps) count code % 16) (omega arith), ne-eqb (done + 1) 0 (omega arith))
+      (code-next _ (eqb (done + 1) (codeAt (s .steps) count code % 16)))
