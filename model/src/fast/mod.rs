@@ -1,7 +1,7 @@
 //! The same run as [`Coprocessor::run`], written for speed: the yardstick of the proved library.
 //!
 //! The registers are decoded once into a `Setup`, the loop carries a `Pen` along one `Stretch` after another, and
-//! the record is put together at the end.
+//! the record is put together at the end. The loop is there three times, as most drawings need no bit in their pen.
 
 mod inks;
 mod pen;
@@ -13,10 +13,16 @@ mod surfaces;
 mod valid;
 
 use crate::coprocessor::Coprocessor;
+use crate::operations::Kind;
 use crate::refusals::{Refusal, NONE};
 use pen::Pen;
-use setup::Setup;
+use setup::{Null, Setup};
 use stretches::Stretch;
+
+/// The loops: of a pen without a bit, with the look-back bit of an area boundary, and with that of being inside.
+const PLAIN: u8 = 0;
+const BOUNDARY: u8 = 1;
+const FILL: u8 = 2;
 
 /// Does at most `allowance` positions, and answers the refusal and how many it did, as [`Coprocessor::run`].
 pub fn run(coprocessor: &mut Coprocessor, memory: &mut [u8], allowance: u32) -> (u32, u32) {
@@ -34,25 +40,39 @@ pub(crate) fn draw(coprocessor: &mut Coprocessor, memory: &mut [u8], allowance: 
     let Some(setup) = Setup::of(coprocessor) else {
         return 0;
     };
-    let (mut stretch, begun) = Stretch::of(&setup, coprocessor.drawing);
-    let mut pen = Pen::of(&coprocessor.registers, begun);
-    stretch.find_row_start(&setup, &pen);
+    match (setup.kind, setup.null) {
+        (Kind::Fill, _) => draw_on::<FILL>(&setup, coprocessor, memory, allowance),
+        (_, Null::Boundary) => draw_on::<BOUNDARY>(&setup, coprocessor, memory, allowance),
+        _ => draw_on::<PLAIN>(&setup, coprocessor, memory, allowance),
+    }
+}
+
+/// The loop.
+fn draw_on<const LOOP: u8>(
+    setup: &Setup,
+    coprocessor: &mut Coprocessor,
+    memory: &mut [u8],
+    allowance: u32,
+) -> u32 {
+    let (mut stretch, begun, bit) = Stretch::of(setup, coprocessor.drawing);
+    let mut pen = Pen::of(&coprocessor.registers, begun, bit);
+    stretch.find_row_start(setup, &pen);
 
     let mut end = None;
     let mut done = 0;
     while done < allowance {
-        position::draw(&setup, &stretch, &pen, memory);
+        let is_foreground = position::draw::<LOOP>(setup, &stretch, &pen, memory);
         done += 1;
         if pen.done < stretch.last {
-            pen = pen.stepped(&setup, &stretch);
+            pen = pen.stepped::<LOOP>(setup, &stretch, is_foreground);
         } else {
-            (pen, end) = stretch.pass(&setup, pen);
+            (pen, end) = stretch.pass(setup, pen);
             if end.is_some() {
                 break;
             }
         }
     }
     pen.put_back(&mut coprocessor.registers);
-    coprocessor.drawing = end.unwrap_or_else(|| stretch.drawing(&setup, pen.done));
+    coprocessor.drawing = end.unwrap_or_else(|| stretch.drawing(setup, &pen));
     done
 }

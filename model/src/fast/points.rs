@@ -13,7 +13,7 @@ pub(super) struct Point {
     pub(super) y: u32,
 }
 
-/// What one step adds to the source and pattern pointers, to the destination's, and to E.
+/// What one step adds to the source and pattern pointers, to the destination's, and to E, and whether it leaves its row.
 #[derive(Clone, Copy)]
 pub(super) struct Step {
     pub(super) map_x: i32,
@@ -21,6 +21,7 @@ pub(super) struct Step {
     pub(super) map_y: i32,
     pub(super) destination_y: i32,
     pub(super) term: i32,
+    pub(super) moves_y: bool,
 }
 
 impl Point {
@@ -47,6 +48,16 @@ impl Point {
             (pointer as i32 - above) as i16
         };
         (signed(self.x), signed(self.y))
+    }
+
+    /// The destination's column, which is 0 where X is negative.
+    #[inline(always)]
+    pub(super) fn column(self) -> u32 {
+        if self.x < FIRST_NEGATIVE {
+            self.x
+        } else {
+            0
+        }
     }
 
     /// The pointer moved by at most one; past an edge of the map it comes in at the other.

@@ -4,6 +4,7 @@ use super::pen::Pen;
 use super::points::{Point, Step};
 use super::setup::{Null, Pattern, Setup};
 use super::surfaces::Surface;
+use super::BOUNDARY;
 use crate::codes::{self, Code};
 use crate::drawing::Drawing;
 use crate::operations::Kind;
@@ -14,37 +15,46 @@ pub(super) struct Stretch {
     pub(super) steps: [Step; 2],
     /// The last position's number.
     pub(super) last: u32,
-    /// The first position that is not nulled, and how many from it on are not.
+    /// The first position that is not nulled, and how many from it on are not, but for those that an area boundary keeps back.
     first_drawn: u32,
     drawn: u32,
+    /// Whether the line or code goes up.
+    pub(super) is_up: bool,
     /// Rows or codes done.
     number: u32,
     /// Codes in the starting write.
     count: u32,
-    /// X of source, pattern and destination where each row of a block begins.
+    /// X of source, pattern and destination where each row of a block or fill begins.
     row_start: [u32; 3],
 }
 
 impl Stretch {
-    /// The stretch in hand, and the positions done in it.
-    pub(super) fn of(setup: &Setup, drawing: Drawing) -> (Stretch, u32) {
-        let (done, number, count) = match drawing {
-            Drawing::Nothing { .. } => (0, 0, 0),
-            Drawing::Line { done } => (done, 0, 0),
-            Drawing::Codes { count, code, done } => (done, code, count),
-            Drawing::Block { column, row } => (column, row, 0),
+    /// The stretch in hand, the positions done in it, and the pen's bit after them.
+    pub(super) fn of(setup: &Setup, drawing: Drawing) -> (Stretch, u32, bool) {
+        let (done, number, count, bit) = match drawing {
+            Drawing::Nothing { .. } => (0, 0, 0, false),
+            Drawing::Line { done, rose } => (done, 0, 0, rose),
+            // Every step of a code that goes up is a step in Y.
+            Drawing::Codes { count, code, done } => (done, code, count, done > 0),
+            Drawing::Block { column, row } => (column, row, 0, false),
+            Drawing::Fill {
+                column,
+                row,
+                inside,
+            } => (column, row, 0, inside),
         };
         let mut stretch = Stretch {
             steps: [setup.step((0, 0), 0); 2],
             last: setup.dimensions.0,
             first_drawn: 0,
             drawn: 0,
+            is_up: false,
             number: number.into(),
             count: count.into(),
             row_start: [0; 3],
         };
         stretch.begin(setup);
-        (stretch, done.into())
+        (stretch, done.into(), bit)
     }
 
     /// Sets the steps, the last position and those drawn.
@@ -56,19 +66,21 @@ impl Stretch {
             Kind::Line => {
                 let major = if setup.is_y_major { (0, y) } else { (x, 0) };
                 self.steps = [setup.step(major, k1), setup.step((x, y), k2)];
+                self.is_up = y < 0;
             }
             Kind::Codes => {
                 let code = Code::of(self.code(setup));
                 let (x, y) = code.direction;
                 self.steps = [setup.step((x as i32, y as i32), 0); 2];
                 self.last = code.steps.into();
+                self.is_up = y < 0;
                 is_move = !code.draws;
             }
-            Kind::Block => self.steps = [block_step((x, 0), (x, 0)); 2],
+            Kind::Block | Kind::Fill => self.steps = [block_step((x, 0), (x, 0)); 2],
         }
         (self.first_drawn, self.drawn) = match setup.null {
             _ if is_move => (0, 0),
-            Null::Nothing => (0, self.last + 1),
+            Null::Nothing | Null::Boundary => (0, self.last + 1),
             Null::First => (1, self.last),
             Null::Last => (0, self.last),
         };
@@ -91,14 +103,26 @@ impl Stretch {
 
     /// Whether the position is neither nulled nor of a move code.
     #[inline(always)]
-    pub(super) fn draws(&self, done: u32) -> bool {
-        done.wrapping_sub(self.first_drawn) < self.drawn
+    pub(super) fn draws<const LOOP: u8>(&self, pen: &Pen) -> bool {
+        let is_drawn = pen.done.wrapping_sub(self.first_drawn) < self.drawn;
+        is_drawn && (LOOP != BOUNDARY || self.is_boundary(pen))
+    }
+
+    /// Whether the next step goes down a row, or the last one came up.
+    #[inline(always)]
+    fn is_boundary(&self, pen: &Pen) -> bool {
+        if self.is_up {
+            pen.bit
+        } else {
+            pen.done < self.last && self.steps[usize::from(pen.e >= 0)].moves_y
+        }
     }
 
     /// Passes from a stretch's last position to the next stretch: the pen, and the drawing's end if there is none.
     #[inline(never)]
     pub(super) fn pass(&mut self, setup: &Setup, pen: Pen) -> (Pen, Option<Drawing>) {
-        let pen = Pen { done: 0, ..pen };
+        let (done, bit) = (0, false);
+        let pen = Pen { done, bit, ..pen };
         let ended = Some(Drawing::Nothing { stopped: false });
         self.number += 1;
         match setup.kind {
@@ -111,7 +135,7 @@ impl Stretch {
                 self.begin(setup);
                 (pen, None)
             }
-            Kind::Block => {
+            Kind::Block | Kind::Fill => {
                 let is_last = self.number > setup.dimensions.1;
                 (self.next_row(setup, pen), ended.filter(|_| is_last))
             }
@@ -132,11 +156,14 @@ impl Stretch {
         (setup.steps >> (8 * (4 - self.count + self.number))) as u8
     }
 
-    /// The drawing in hand after so many positions of the stretch.
-    pub(super) fn drawing(&self, setup: &Setup, done: u32) -> Drawing {
-        let (done, number) = (done as u16, self.number as u16);
+    /// The drawing in hand at the pen.
+    pub(super) fn drawing(&self, setup: &Setup, pen: &Pen) -> Drawing {
+        let (done, number) = (pen.done as u16, self.number as u16);
         match setup.kind {
-            Kind::Line => Drawing::Line { done },
+            Kind::Line => Drawing::Line {
+                done,
+                rose: pen.bit,
+            },
             Kind::Codes => Drawing::Codes {
                 count: self.count as u8,
                 code: number,
@@ -145,6 +172,11 @@ impl Stretch {
             Kind::Block => Drawing::Block {
                 column: done,
                 row: number,
+            },
+            Kind::Fill => Drawing::Fill {
+                column: done,
+                row: number,
+                inside: pen.bit,
             },
         }
     }
@@ -158,28 +190,22 @@ fn block_step(map: (i32, i32), destination: (i32, i32)) -> Step {
         destination_x: destination.0,
         destination_y: destination.1,
         term: 0,
+        moves_y: false,
     }
 }
 
 impl Setup {
     /// Read forms move the maps so and the destination's X by +1, write forms the reverse (docs/DIFFERENCES.md, D3).
     fn step(&self, (x, y): (i32, i32), term: i32) -> Step {
-        if self.is_read_form {
-            Step {
-                map_x: x,
-                map_y: y,
-                destination_x: 1,
-                destination_y: 0,
-                term,
-            }
+        let (map, destination) = if self.is_read_form {
+            ((x, y), (1, 0))
         } else {
-            Step {
-                map_x: 1,
-                map_y: 0,
-                destination_x: x,
-                destination_y: y,
-                term,
-            }
+            ((1, 0), (x, y))
+        };
+        Step {
+            term,
+            moves_y: y != 0,
+            ..block_step(map, destination)
         }
     }
 }
