@@ -24,6 +24,7 @@ pub struct Counts {
     whole: u64,
     damaged: u64,
     loaded: u64,
+    loaded_inside: u64,
     refused: u64,
     rules: Vec<Rule>,
 }
@@ -54,12 +55,12 @@ pub fn compare(random: &mut Random, count: u64, others: &Others) -> Result<Count
             }
             _ => {
                 let rule = &mut rules[turn.next().unwrap_or_default()];
-                rule.times += 1;
                 images.break_alone(rule)?;
                 false
             }
         };
         counts.loaded += u64::from(is_loaded);
+        counts.loaded_inside += u64::from(is_loaded && is_inside(&image));
         counts.refused += u64::from(!is_loaded);
     }
     let rare = rules.iter().find(|rule| rule.times < count / 1000);
@@ -90,12 +91,17 @@ impl Images<'_> {
         self.random.below(SHELF as u32) as usize
     }
 
-    /// A state that fits the rule; where the shelf has none, new ones come until one does.
+    /// A state that fits the rule, every other time one in state 3 if the shelf has it; where it has none, new ones come.
     fn fitting(&mut self, rule: &Rule) -> &Coprocessor {
         let first = self.place();
-        let mut places = (first..first + SHELF).map(|place| place % SHELF);
-        let place = places.find(|place| (rule.fits)(&self.shelf[*place]));
-        let place = place.unwrap_or(first);
+        let places = || (first..first + SHELF).map(|place| place % SHELF);
+        let fits = |place: &usize| (rule.fits)(&self.shelf[*place]);
+        let is_inside = |place: &usize| is_inside(&image::of(&self.shelf[*place]));
+        let inside = match rule.times % 2 {
+            0 => None,
+            _ => places().find(|place| fits(place) && is_inside(place)),
+        };
+        let place = inside.or_else(|| places().find(fits)).unwrap_or(first);
         while !(rule.fits)(&self.shelf[place]) {
             self.shelf[place] = states::any(self.random);
         }
@@ -103,9 +109,11 @@ impl Images<'_> {
     }
 
     /// Breaks the rule in the image of a state that fits it: whole it loads, and so it does not.
-    fn break_alone(&mut self, rule: &Rule) -> Result<(), String> {
+    fn break_alone(&mut self, rule: &mut Rule) -> Result<(), String> {
         let state = self.fitting(rule).clone();
         let whole = image::of(&state);
+        rule.times += 1;
+        rule.times_inside += u64::from(is_inside(&whole));
         let broken = (rule.breaks)(self.random, &state);
         match (self.is_taken(&whole)?, self.is_taken(&broken)?) {
             (true, false) => Ok(()),
@@ -133,13 +141,18 @@ impl Images<'_> {
     }
 }
 
+/// Whether the image is of a drawing that is inside.
+fn is_inside(image: &[u8]) -> bool {
+    image.get(9) == Some(&3)
+}
+
 impl fmt::Display for Counts {
     fn fmt(&self, lines: &mut fmt::Formatter) -> fmt::Result {
         let broken: u64 = self.rules.iter().map(|rule| rule.times).sum();
         write!(
             lines,
-            "images: {} loaded, {} refused; {} were whole, {} damaged, {broken} had one rule broken by itself:",
-            self.loaded, self.refused, self.whole, self.damaged
+            "images: {} loaded, {} of them in state 3, {} refused; {} were whole, {} damaged, {broken} had one rule broken by itself:",
+            self.loaded, self.loaded_inside, self.refused, self.whole, self.damaged
         )?;
         for group in self.rules.chunk_by(|one, next| one.group == next.group) {
             let rules = group
@@ -147,6 +160,15 @@ impl fmt::Display for Counts {
                 .map(|rule| format!("{}: {}", rule.name, rule.times));
             write!(lines, "{}", report::list(group[0].group, rules))?;
         }
-        Ok(())
+        let inside = || self.rules.iter().map(|rule| rule.times_inside);
+        let met = || inside().filter(|times| *times > 0);
+        write!(
+            lines,
+            "\n  {} of these were in state 3; {} of the {} rules were broken so, each at least {} times",
+            inside().sum::<u64>(),
+            met().count(),
+            self.rules.len(),
+            met().min().unwrap_or(0)
+        )
     }
 }

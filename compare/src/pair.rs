@@ -8,6 +8,10 @@ use model::refusals::{Refusal, NONE};
 use model::Coprocessor;
 use std::fmt::Debug;
 
+/// Where the state stands in the image, and what it is of a drawing that is inside.
+const STATE_AT: usize = 9;
+const DRAWING_INSIDE: u8 = 3;
+
 /// The two states: the image of the proved code between guard bytes, and the record of the independent program.
 #[derive(Clone, Debug)]
 pub struct Pair {
@@ -106,6 +110,11 @@ impl Pair {
         }
         self.agree("save", &[length as u32], said, right)?;
         Ok(right)
+    }
+
+    /// Whether the state is 3, drawing and inside.
+    pub fn is_inside(&self) -> bool {
+        self.image()[STATE_AT] == DRAWING_INSIDE
     }
 
     /// The image of the state, as the proved code keeps it.

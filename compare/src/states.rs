@@ -51,11 +51,23 @@ fn go_on(random: &mut Random, state: &mut Coprocessor) {
         state.run(&mut memory, allowance);
         return;
     }
+    let bit = random.once_in(2);
     let mut upto = |last: u16| random.below(u32::from(last) + 1) as u16;
     state.drawing = match state.drawing {
-        Drawing::Line { .. } => Drawing::Line {
-            done: upto(registers.dimension_1),
-        },
+        Drawing::Line { .. } => {
+            let done = upto(registers.dimension_1);
+            let may_look_back = done > 0 && registers.fields().draws_boundary();
+            let rose = bit && may_look_back;
+            Drawing::Line { done, rose }
+        }
+        Drawing::Fill { .. } => {
+            let column = upto(registers.dimension_1);
+            Drawing::Fill {
+                column,
+                row: upto(registers.dimension_2),
+                inside: bit && column > 0,
+            }
+        }
         Drawing::Block { .. } => Drawing::Block {
             column: upto(registers.dimension_1),
             row: upto(registers.dimension_2),
