@@ -22,11 +22,12 @@ pub(super) fn draw<const LOOP: u8>(
         Pattern::FromSource => u32::from(source != 0),
         Pattern::Map(surface) => surface.pixel(memory, pen.pattern.x, pen.pattern.y),
     };
-    let is_foreground = match LOOP {
-        FILL => pen.bit != (pattern == 1),
-        _ => pattern == 1,
+    let picked = match LOOP {
+        FILL => pattern ^ u32::from(pen.bit),
+        _ => pattern,
     };
-    let ink = &setup.inks[usize::from(is_foreground)];
+    let ink = &setup.inks[picked as usize & 1];
+    let is_foreground = picked & 1 == 1;
 
     let (x, y) = match LOOP {
         BOUNDARY => (pen.destination.column(), pen.destination.y),
