@@ -1,12 +1,11 @@
-//! What every position changes: pointers, E, a counter and a bit.
+//! What every position changes: pointers, E and a counter.
 
 use super::points::{Point, Step};
 use super::setup::{Pattern, Setup};
 use super::stretches::Stretch;
-use super::{BOUNDARY, FILL};
 use crate::registers::Registers;
 
-/// The pointers, E, the positions done in this line, code or row, and whether it is inside or looks back at a step up.
+/// The pointers, E, and the positions done in this line, code or row.
 #[derive(Clone, Copy)]
 pub(super) struct Pen {
     pub(super) source: Point,
@@ -14,37 +13,25 @@ pub(super) struct Pen {
     pub(super) destination: Point,
     pub(super) e: i32,
     pub(super) done: u32,
-    pub(super) bit: bool,
 }
 
 impl Pen {
     /// The pen of the registers, after so many positions.
-    pub(super) fn of(registers: &Registers, done: u32, bit: bool) -> Pen {
+    pub(super) fn of(registers: &Registers, done: u32) -> Pen {
         Pen {
             source: Point::in_map(registers.source_x, registers.source_y),
             pattern: Point::in_map(registers.pattern_x, registers.pattern_y),
             destination: Point::of_destination(registers.destination_x, registers.destination_y),
             e: registers.e,
             done,
-            bit,
         }
     }
 
-    /// Steps to the next position of the stretch from one in the foreground or background.
+    /// Steps to the next position of the stretch.
     #[inline(always)]
-    pub(super) fn stepped<const LOOP: u8>(
-        self,
-        setup: &Setup,
-        stretch: &Stretch,
-        is_foreground: bool,
-    ) -> Pen {
+    pub(super) fn stepped(self, setup: &Setup, stretch: &Stretch) -> Pen {
         let step = &stretch.steps[usize::from(self.e >= 0)];
         Pen {
-            bit: match LOOP {
-                BOUNDARY => stretch.is_up && step.moves_y,
-                FILL => is_foreground,
-                _ => self.bit,
-            },
             // E is reduced as in a write.
             e: ((self.e + step.term + 8_192) & 16_383) - 8_192,
             done: self.done + 1,

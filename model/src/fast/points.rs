@@ -13,7 +13,7 @@ pub(super) struct Point {
     pub(super) y: u32,
 }
 
-/// What one step adds to the source and pattern pointers, to the destination's, and to E, and whether it leaves its row.
+/// What one step adds to the source and pattern pointers, to the destination's, and to E.
 #[derive(Clone, Copy)]
 pub(super) struct Step {
     pub(super) map_x: i32,
@@ -21,7 +21,6 @@ pub(super) struct Step {
     pub(super) map_y: i32,
     pub(super) destination_y: i32,
     pub(super) term: i32,
-    pub(super) moves_y: bool,
 }
 
 impl Point {

@@ -5,12 +5,13 @@ use super::setup::{Mask, Pattern, Setup};
 use super::stretches::Stretch;
 use super::{BOUNDARY, FILL};
 
-/// Draws the position at the pen, and answers whether it is in the foreground; a pixel beyond the memory panics.
+/// Draws the position at the pen, with its bit, and answers whether it is in the foreground; a pixel beyond the memory panics.
 #[inline(always)]
 pub(super) fn draw<const LOOP: u8>(
     setup: &Setup,
     stretch: &Stretch,
     pen: &Pen,
+    bit: bool,
     memory: &mut [u8],
 ) -> bool {
     let source = match &setup.source {
@@ -23,7 +24,7 @@ pub(super) fn draw<const LOOP: u8>(
         Pattern::Map(surface) => surface.pixel(memory, pen.pattern.x, pen.pattern.y),
     };
     let picked = match LOOP {
-        FILL => pattern ^ u32::from(pen.bit),
+        FILL => pattern ^ u32::from(bit),
         _ => pattern,
     };
     let ink = &setup.inks[picked as usize & 1];
@@ -38,7 +39,7 @@ pub(super) fn draw<const LOOP: u8>(
     }
     let (byte, shift) = setup.destination.byte(memory, x, y);
     let destination = u32::from(*byte) >> shift;
-    if stretch.draws::<LOOP>(pen) && !setup.compare.holds(destination) {
+    if stretch.draws::<LOOP>(pen, bit) && !setup.compare.holds(destination) {
         *byte ^= (ink.change(source, destination) << shift) as u8;
     }
     is_foreground

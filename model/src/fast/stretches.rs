@@ -18,8 +18,9 @@ pub(super) struct Stretch {
     /// The first position that is not nulled, and how many from it on are not, but for those that an area boundary keeps back.
     first_drawn: u32,
     drawn: u32,
-    /// Whether the line or code goes up.
-    pub(super) is_up: bool,
+    /// Whether the line or code goes up, and whether each of the two steps moves Y.
+    is_up: bool,
+    moves_y: [bool; 2],
     /// Rows or codes done.
     number: u32,
     /// Codes in the starting write.
@@ -29,7 +30,8 @@ pub(super) struct Stretch {
 }
 
 impl Stretch {
-    /// The stretch in hand, the positions done in it, and the pen's bit after them.
+    /// The stretch in hand, the positions done in it, and the bit after them.
+    #[inline(always)]
     pub(super) fn of(setup: &Setup, drawing: Drawing) -> (Stretch, u32, bool) {
         let (done, number, count, bit) = match drawing {
             Drawing::Nothing { .. } => (0, 0, 0, false),
@@ -49,6 +51,7 @@ impl Stretch {
             first_drawn: 0,
             drawn: 0,
             is_up: false,
+            moves_y: [false; 2],
             number: number.into(),
             count: count.into(),
             row_start: [0; 3],
@@ -67,6 +70,7 @@ impl Stretch {
                 let major = if setup.is_y_major { (0, y) } else { (x, 0) };
                 self.steps = [setup.step(major, k1), setup.step((x, y), k2)];
                 self.is_up = y < 0;
+                self.moves_y = [setup.is_y_major, true];
             }
             Kind::Codes => {
                 let code = Code::of(self.code(setup));
@@ -74,6 +78,7 @@ impl Stretch {
                 self.steps = [setup.step((x as i32, y as i32), 0); 2];
                 self.last = code.steps.into();
                 self.is_up = y < 0;
+                self.moves_y = [y != 0; 2];
                 is_move = !code.draws;
             }
             Kind::Block | Kind::Fill => self.steps = [block_step((x, 0), (x, 0)); 2],
@@ -87,6 +92,7 @@ impl Stretch {
     }
 
     /// Finds where the rows of a block begin, from X and the column.
+    #[inline(always)]
     pub(super) fn find_row_start(&mut self, setup: &Setup, pen: &Pen) {
         let back = -setup.signs.0 * pen.done as i32;
         let begun = |surface: &Surface, point: &Point| {
@@ -103,26 +109,31 @@ impl Stretch {
 
     /// Whether the position is neither nulled nor of a move code.
     #[inline(always)]
-    pub(super) fn draws<const LOOP: u8>(&self, pen: &Pen) -> bool {
+    pub(super) fn draws<const LOOP: u8>(&self, pen: &Pen, bit: bool) -> bool {
         let is_drawn = pen.done.wrapping_sub(self.first_drawn) < self.drawn;
-        is_drawn && (LOOP != BOUNDARY || self.is_boundary(pen))
+        is_drawn && (LOOP != BOUNDARY || self.is_boundary(pen, bit))
     }
 
     /// Whether the next step goes down a row, or the last one came up.
     #[inline(always)]
-    fn is_boundary(&self, pen: &Pen) -> bool {
+    fn is_boundary(&self, pen: &Pen, bit: bool) -> bool {
         if self.is_up {
-            pen.bit
+            bit
         } else {
-            pen.done < self.last && self.steps[usize::from(pen.e >= 0)].moves_y
+            pen.done < self.last && self.moves_y[usize::from(pen.e >= 0)]
         }
+    }
+
+    /// Whether the next step goes up a row.
+    #[inline(always)]
+    pub(super) fn rises(&self, pen: &Pen) -> bool {
+        self.is_up && self.moves_y[usize::from(pen.e >= 0)]
     }
 
     /// Passes from a stretch's last position to the next stretch: the pen, and the drawing's end if there is none.
     #[inline(never)]
     pub(super) fn pass(&mut self, setup: &Setup, pen: Pen) -> (Pen, Option<Drawing>) {
-        let (done, bit) = (0, false);
-        let pen = Pen { done, bit, ..pen };
+        let pen = Pen { done: 0, ..pen };
         let ended = Some(Drawing::Nothing { stopped: false });
         self.number += 1;
         match setup.kind {
@@ -156,14 +167,11 @@ impl Stretch {
         (setup.steps >> (8 * (4 - self.count + self.number))) as u8
     }
 
-    /// The drawing in hand at the pen.
-    pub(super) fn drawing(&self, setup: &Setup, pen: &Pen) -> Drawing {
-        let (done, number) = (pen.done as u16, self.number as u16);
+    /// The drawing in hand after so many positions of the stretch, with its bit.
+    pub(super) fn drawing(&self, setup: &Setup, done: u32, bit: bool) -> Drawing {
+        let (done, number) = (done as u16, self.number as u16);
         match setup.kind {
-            Kind::Line => Drawing::Line {
-                done,
-                rose: pen.bit,
-            },
+            Kind::Line => Drawing::Line { done, rose: bit },
             Kind::Codes => Drawing::Codes {
                 count: self.count as u8,
                 code: number,
@@ -176,7 +184,7 @@ impl Stretch {
             Kind::Fill => Drawing::Fill {
                 column: done,
                 row: number,
-                inside: pen.bit,
+                inside: bit,
             },
         }
     }
@@ -190,7 +198,6 @@ fn block_step(map: (i32, i32), destination: (i32, i32)) -> Step {
         destination_x: destination.0,
         destination_y: destination.1,
         term: 0,
-        moves_y: false,
     }
 }
 
@@ -204,7 +211,6 @@ impl Setup {
         };
         Step {
             term,
-            moves_y: y != 0,
             ..block_step(map, destination)
         }
     }
