@@ -96,8 +96,13 @@ impl fmt::Display for Counts {
         let calls: u64 = self.calls.iter().flatten().sum();
         write!(
             lines,
-            "sequences: {}, of {calls} calls; {} positions in {} runs, of which {} changed memory; {} loads into another coprocessor, {} loads in state 3",
-            self.sequences, self.positions, self.runs[0], self.runs[1], self.carried, self.loaded_inside
+            "sequences: {}, of {calls} calls; {} positions in {} runs, of which {} changed memory",
+            self.sequences, self.positions, self.runs[0], self.runs[1]
+        )?;
+        write!(
+            lines,
+            "\n  {} loads into another coprocessor; {} of all loads in state 3",
+            self.carried, self.loaded_inside
         )?;
         for ((name, _), times) in CALLS.iter().zip(&self.calls) {
             write!(lines, "{}", report::met(name, &NUMBERS, times))?;
