@@ -6,6 +6,10 @@ use model::random::Random;
 /// The most steps of a code.
 pub const LONGEST_CODE: i64 = 15;
 
+/// How far an outline goes left of or above the map at most, and right of or below it: no line is then too long for its registers.
+const FAR_LEFT: i64 = 1_500;
+const FAR_RIGHT: i64 = 2_500;
+
 /// The steps of the eight directions of codes: 0 right, 1 up right, then anticlockwise.
 pub const DIRECTIONS: [Point; 8] = [
     (1, 0),
@@ -93,14 +97,16 @@ impl Frame {
             5 => random.below(16),
             edge => 1 << (edge - 1),
         };
-        let mut beyond = |edge: u32, side: i64| match sides >> edge & 1 {
+        let mut beyond = |edge: u32, side: i64, far: i64| match sides >> edge & 1 {
             0 => 0,
-            _ if random.once_in(64) => 1_500,
+            _ if random.once_in(64) => far,
             _ => side,
         };
+        let (left, right) = (beyond(0, map.0, FAR_LEFT), beyond(1, map.0, FAR_RIGHT));
+        let (above, below) = (beyond(2, map.1, FAR_LEFT), beyond(3, map.1, FAR_RIGHT));
         Frame {
-            first: (-beyond(0, map.0), -beyond(2, map.1)),
-            last: (map.0 - 1 + beyond(1, map.0), map.1 - 1 + beyond(3, map.1)),
+            first: (-left, -above),
+            last: (map.0 - 1 + right, map.1 - 1 + below),
         }
     }
 
