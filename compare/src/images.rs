@@ -5,15 +5,13 @@ use crate::memories::Memories;
 use crate::others::Others;
 use crate::report;
 use crate::rules::{self, Rule};
-use crate::states;
+use crate::shelf::Shelf;
+use crate::states::is_inside;
 use model::coprocessor::is_within_limit;
 use model::image;
 use model::random::Random;
 use model::Coprocessor;
 use std::fmt;
-
-/// The states from which one that fits a rule is picked.
-const SHELF: usize = 64;
 
 /// The positions that an image which loads is run for.
 const POSITIONS: u32 = 3;
@@ -35,7 +33,7 @@ pub fn compare(random: &mut Random, count: u64, others: &Others) -> Result<Count
     let mut turn = (0..rules.len()).cycle();
     let mut counts = Counts::default();
     let mut images = Images {
-        shelf: (0..SHELF).map(|_| states::any(random)).collect(),
+        shelf: Shelf::new(random),
         random,
         others,
         memories: Memories::of(&[]),
@@ -74,43 +72,28 @@ pub fn compare(random: &mut Random, count: u64, others: &Others) -> Result<Count
 struct Images<'a> {
     random: &'a mut Random,
     others: &'a Others,
-    /// States, of which new ones come in turn.
-    shelf: Vec<Coprocessor>,
+    shelf: Shelf,
     memories: Memories,
 }
 
 impl Images<'_> {
-    /// The image of a state of the shelf, after a new state has come.
+    /// The image of any state.
     fn any(&mut self) -> Vec<u8> {
-        let (new, old) = (self.place(), self.place());
-        self.shelf[new] = states::any(self.random);
-        image::of(&self.shelf[old]).to_vec()
+        image::of(self.shelf.any(self.random)).to_vec()
     }
 
-    fn place(&mut self) -> usize {
-        self.random.below(SHELF as u32) as usize
-    }
-
-    /// A state that fits the rule, every other time one in state 3 if the shelf has it; where it has none, new ones come.
-    fn fitting(&mut self, rule: &Rule) -> &Coprocessor {
-        let first = self.place();
-        let places = || (first..first + SHELF).map(|place| place % SHELF);
-        let fits = |place: &usize| (rule.fits)(&self.shelf[*place]);
-        let is_inside = |place: &usize| is_inside(&image::of(&self.shelf[*place]));
+    /// A state that fits the rule, every other time one in state 3 if there is one.
+    fn fitting(&mut self, rule: &Rule) -> Coprocessor {
         let inside = match rule.times % 2 {
             0 => None,
-            _ => places().find(|place| fits(place) && is_inside(place)),
+            _ => self.shelf.fitting_inside(self.random, &rule.fits).cloned(),
         };
-        let place = inside.or_else(|| places().find(fits)).unwrap_or(first);
-        while !(rule.fits)(&self.shelf[place]) {
-            self.shelf[place] = states::any(self.random);
-        }
-        &self.shelf[place]
+        inside.unwrap_or_else(|| self.shelf.fitting(self.random, &rule.fits).clone())
     }
 
     /// Breaks the rule in the image of a state that fits it: whole it loads, and so it does not.
     fn break_alone(&mut self, rule: &mut Rule) -> Result<(), String> {
-        let state = self.fitting(rule).clone();
+        let state = self.fitting(rule);
         let whole = image::of(&state);
         rule.times += 1;
         rule.times_inside += u64::from(is_inside(&whole));
@@ -139,11 +122,6 @@ impl Images<'_> {
         pair.run(&mut self.memories, POSITIONS)?;
         Ok(true)
     }
-}
-
-/// Whether the image is of a drawing that is inside.
-fn is_inside(image: &[u8]) -> bool {
-    image.get(9) == Some(&3)
 }
 
 impl fmt::Display for Counts {

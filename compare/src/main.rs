@@ -27,6 +27,7 @@ mod report;
 mod rules;
 mod sequences;
 mod set_ups;
+mod shelf;
 mod states;
 
 use arguments::Arguments;

@@ -3,14 +3,11 @@
 use crate::board::{self, IMAGE};
 use crate::guarded::Guarded;
 use crate::memories::Memories;
+use crate::states;
 use model::image;
 use model::refusals::{Refusal, NONE};
 use model::Coprocessor;
 use std::fmt::Debug;
-
-/// Where the state stands in the image, and what it is of a drawing that is inside.
-const STATE_AT: usize = 9;
-const DRAWING_INSIDE: u8 = 3;
 
 /// The two states: the image of the proved code between guard bytes, and the record of the independent program.
 #[derive(Clone, Debug)]
@@ -114,7 +111,7 @@ impl Pair {
 
     /// Whether the state is 3, drawing and inside.
     pub fn is_inside(&self) -> bool {
-        self.image()[STATE_AT] == DRAWING_INSIDE
+        states::is_inside(self.image())
     }
 
     /// The image of the state, as the proved code keeps it.

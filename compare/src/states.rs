@@ -29,6 +29,11 @@ pub fn any(random: &mut Random) -> Coprocessor {
     state
 }
 
+/// Whether the image is of state 3, a drawing that is inside.
+pub fn is_inside(image: &[u8]) -> bool {
+    image.get(9) == Some(&3)
+}
+
 /// The indexes of the maps that the stored operations use: destination, then source, pattern and mask map where used.
 pub fn used_maps(state: &Coprocessor) -> Vec<usize> {
     let operations = state.registers.fields();
