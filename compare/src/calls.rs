@@ -37,7 +37,7 @@ pub fn write(random: &mut Random) -> Write {
 
 /// Pixel operations that are nearly right.
 pub fn operations(random: &mut Random) -> u32 {
-    let function = random.pick(&[2, 3, 4, 5, 8, 9, 5, 8]);
+    let function = random.pick(&[2, 3, 4, 5, 8, 9, 10, 5, 8, 10]);
     let sources = random.pick(&[0b0000, 0b0010, 0b1000, 0b1010, 0b0001]);
     let maps = random.pick(&[0x01, 0x11, 0x12, 0x23, 0x31, 0x10]);
     let pattern = random.pick(&[8, 8, 8, 9, 1, 2, 3, 0]);

@@ -5,15 +5,13 @@ use crate::memories::Memories;
 use crate::others::Others;
 use crate::report;
 use crate::rules::{self, Rule};
-use crate::states;
+use crate::shelf::Shelf;
+use crate::states::is_inside;
 use model::coprocessor::is_within_limit;
 use model::image;
 use model::random::Random;
 use model::Coprocessor;
 use std::fmt;
-
-/// The states from which one that fits a rule is picked.
-const SHELF: usize = 64;
 
 /// The positions that an image which loads is run for.
 const POSITIONS: u32 = 3;
@@ -24,6 +22,7 @@ pub struct Counts {
     whole: u64,
     damaged: u64,
     loaded: u64,
+    loaded_inside: u64,
     refused: u64,
     rules: Vec<Rule>,
 }
@@ -34,7 +33,7 @@ pub fn compare(random: &mut Random, count: u64, others: &Others) -> Result<Count
     let mut turn = (0..rules.len()).cycle();
     let mut counts = Counts::default();
     let mut images = Images {
-        shelf: (0..SHELF).map(|_| states::any(random)).collect(),
+        shelf: Shelf::new(random),
         random,
         others,
         memories: Memories::of(&[]),
@@ -54,12 +53,12 @@ pub fn compare(random: &mut Random, count: u64, others: &Others) -> Result<Count
             }
             _ => {
                 let rule = &mut rules[turn.next().unwrap_or_default()];
-                rule.times += 1;
                 images.break_alone(rule)?;
                 false
             }
         };
         counts.loaded += u64::from(is_loaded);
+        counts.loaded_inside += u64::from(is_loaded && is_inside(&image));
         counts.refused += u64::from(!is_loaded);
     }
     let rare = rules.iter().find(|rule| rule.times < count / 1000);
@@ -73,39 +72,31 @@ pub fn compare(random: &mut Random, count: u64, others: &Others) -> Result<Count
 struct Images<'a> {
     random: &'a mut Random,
     others: &'a Others,
-    /// States, of which new ones come in turn.
-    shelf: Vec<Coprocessor>,
+    shelf: Shelf,
     memories: Memories,
 }
 
 impl Images<'_> {
-    /// The image of a state of the shelf, after a new state has come.
+    /// The image of any state.
     fn any(&mut self) -> Vec<u8> {
-        let (new, old) = (self.place(), self.place());
-        self.shelf[new] = states::any(self.random);
-        image::of(&self.shelf[old]).to_vec()
+        image::of(self.shelf.any(self.random)).to_vec()
     }
 
-    fn place(&mut self) -> usize {
-        self.random.below(SHELF as u32) as usize
-    }
-
-    /// A state that fits the rule; where the shelf has none, new ones come until one does.
-    fn fitting(&mut self, rule: &Rule) -> &Coprocessor {
-        let first = self.place();
-        let mut places = (first..first + SHELF).map(|place| place % SHELF);
-        let place = places.find(|place| (rule.fits)(&self.shelf[*place]));
-        let place = place.unwrap_or(first);
-        while !(rule.fits)(&self.shelf[place]) {
-            self.shelf[place] = states::any(self.random);
-        }
-        &self.shelf[place]
+    /// A state that fits the rule, every other time one in state 3 if there is one.
+    fn fitting(&mut self, rule: &Rule) -> Coprocessor {
+        let inside = match rule.times % 2 {
+            0 => None,
+            _ => self.shelf.fitting_inside(self.random, &rule.fits).cloned(),
+        };
+        inside.unwrap_or_else(|| self.shelf.fitting(self.random, &rule.fits).clone())
     }
 
     /// Breaks the rule in the image of a state that fits it: whole it loads, and so it does not.
-    fn break_alone(&mut self, rule: &Rule) -> Result<(), String> {
-        let state = self.fitting(rule).clone();
+    fn break_alone(&mut self, rule: &mut Rule) -> Result<(), String> {
+        let state = self.fitting(rule);
         let whole = image::of(&state);
+        rule.times += 1;
+        rule.times_inside += u64::from(is_inside(&whole));
         let broken = (rule.breaks)(self.random, &state);
         match (self.is_taken(&whole)?, self.is_taken(&broken)?) {
             (true, false) => Ok(()),
@@ -138,8 +129,8 @@ impl fmt::Display for Counts {
         let broken: u64 = self.rules.iter().map(|rule| rule.times).sum();
         write!(
             lines,
-            "images: {} loaded, {} refused; {} were whole, {} damaged, {broken} had one rule broken by itself:",
-            self.loaded, self.refused, self.whole, self.damaged
+            "images: {} loaded, {} of them in state 3, {} refused; {} were whole, {} damaged, {broken} had one rule broken by itself:",
+            self.loaded, self.loaded_inside, self.refused, self.whole, self.damaged
         )?;
         for group in self.rules.chunk_by(|one, next| one.group == next.group) {
             let rules = group
@@ -147,6 +138,15 @@ impl fmt::Display for Counts {
                 .map(|rule| format!("{}: {}", rule.name, rule.times));
             write!(lines, "{}", report::list(group[0].group, rules))?;
         }
-        Ok(())
+        let inside = || self.rules.iter().map(|rule| rule.times_inside);
+        let met = || inside().filter(|times| *times > 0);
+        write!(
+            lines,
+            "\n  {} of these were in state 3; {} of the {} rules were broken so, each at least {} times",
+            inside().sum::<u64>(),
+            met().count(),
+            self.rules.len(),
+            met().min().unwrap_or(0)
+        )
     }
 }

@@ -1,9 +1,9 @@
 //! Holds the proved code against the independent program.
 //!
-//! usage: compare [seed=N] [leaves=N] [images=N] [drawings=N] [sequences=N] [only=N]
+//! usage: compare [seed=N] [leaves=N] [images=N] [drawings=N] [outlines=N] [sequences=N] [only=N]
 //!
-//! Compares mixes, conditions and pixels (`leaves` of each at random), state images, whole drawings, and sequences
-//! of calls; left out, the numbers are 1, 1,000,000, 20,000, 10,000 and 120,000.
+//! Compares mixes, conditions and pixels (`leaves` of each at random), state images, whole drawings, filled outlines with plain
+//! geometry, and sequences of calls; left out, the numbers are 1, 1,000,000, 20,000, 10,000, 20,000 and 120,000.
 //! A part of which 0 is asked is left out; `only` repeats the sequence of that number alone and tells its calls.
 //! The last line is `no difference`, or the first difference is told after `DIFFERENCE:` and the exit status is not 0.
 
@@ -19,6 +19,7 @@ mod leaves;
 mod memories;
 mod mixes;
 mod others;
+mod outlines;
 mod pair;
 mod panics;
 mod pixels;
@@ -26,6 +27,7 @@ mod report;
 mod rules;
 mod sequences;
 mod set_ups;
+mod shelf;
 mod states;
 
 use arguments::Arguments;
@@ -64,8 +66,8 @@ fn all(asked: &Arguments) -> Result<(), String> {
         return sequences::one(seed, number, &others, &mut counts, true);
     }
     println!(
-        "seed {seed}: {} images, {} drawings, {} sequences",
-        asked.images, asked.drawings, asked.sequences
+        "seed {seed}: {} images, {} drawings, {} outlines, {} sequences",
+        asked.images, asked.drawings, asked.outlines, asked.sequences
     );
     if asked.leaves > 0 {
         compare_leaves(&mut random(2), asked.leaves)?;
@@ -76,6 +78,10 @@ fn all(asked: &Arguments) -> Result<(), String> {
     }
     if asked.drawings > 0 {
         let met = drawings::compare(&mut random(4), random(5), asked.drawings, &others)?;
+        println!("{met}");
+    }
+    if asked.outlines > 0 {
+        let met = outlines::compare(&mut random(6), asked.outlines)?;
         println!("{met}");
     }
     if asked.sequences > 0 {

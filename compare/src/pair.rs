@@ -3,6 +3,7 @@
 use crate::board::{self, IMAGE};
 use crate::guarded::Guarded;
 use crate::memories::Memories;
+use crate::states;
 use model::image;
 use model::refusals::{Refusal, NONE};
 use model::Coprocessor;
@@ -106,6 +107,11 @@ impl Pair {
         }
         self.agree("save", &[length as u32], said, right)?;
         Ok(right)
+    }
+
+    /// Whether the state is 3, drawing and inside.
+    pub fn is_inside(&self) -> bool {
+        states::is_inside(self.image())
     }
 
     /// The image of the state, as the proved code keeps it.

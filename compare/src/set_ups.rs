@@ -73,7 +73,10 @@ fn spread(random: &mut Random, state: &mut Coprocessor, operations: &Operations)
         place(random, map, state.size);
     }
     let (map, mask) = (*registers.map(operations.destination), registers.maps[0]);
-    let x = destination(random, map.width);
+    let x = match operations.draws_boundary() && random.once_in(3) {
+        true => random.between(-20, 2) as i16,
+        false => destination(random, map.width),
+    };
     let y = destination(random, map.height);
     (registers.destination_x, registers.destination_y) = (x, y);
     registers.mask_origin_x = origin(random, x, mask.width);

@@ -29,6 +29,11 @@ pub fn any(random: &mut Random) -> Coprocessor {
     state
 }
 
+/// Whether the image is of state 3, a drawing that is inside.
+pub fn is_inside(image: &[u8]) -> bool {
+    image.get(9) == Some(&3)
+}
+
 /// The indexes of the maps that the stored operations use: destination, then source, pattern and mask map where used.
 pub fn used_maps(state: &Coprocessor) -> Vec<usize> {
     let operations = state.registers.fields();
@@ -51,11 +56,23 @@ fn go_on(random: &mut Random, state: &mut Coprocessor) {
         state.run(&mut memory, allowance);
         return;
     }
+    let bit = random.once_in(2);
     let mut upto = |last: u16| random.below(u32::from(last) + 1) as u16;
     state.drawing = match state.drawing {
-        Drawing::Line { .. } => Drawing::Line {
-            done: upto(registers.dimension_1),
-        },
+        Drawing::Line { .. } => {
+            let done = upto(registers.dimension_1);
+            let may_look_back = done > 0 && registers.fields().draws_boundary();
+            let rose = bit && may_look_back;
+            Drawing::Line { done, rose }
+        }
+        Drawing::Fill { .. } => {
+            let column = upto(registers.dimension_1);
+            Drawing::Fill {
+                column,
+                row: upto(registers.dimension_2),
+                inside: bit && column > 0,
+            }
+        }
         Drawing::Block { .. } => Drawing::Block {
             column: upto(registers.dimension_1),
             row: upto(registers.dimension_2),

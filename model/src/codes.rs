@@ -48,6 +48,11 @@ pub fn of_write(steps: u32, count: u8) -> Vec<u8> {
     steps.to_le_bytes()[unwritten..].to_vec()
 }
 
+/// Code number `code` of the starting write, if it has so many.
+pub fn at(steps: u32, count: u8, code: u16) -> Option<Code> {
+    byte(steps, count, code).map(Code::of)
+}
+
 /// The byte of code number `code` of the starting write, if it has so many.
 pub fn byte(steps: u32, count: u8, code: u16) -> Option<u8> {
     of_write(steps, count).get(usize::from(code)).copied()

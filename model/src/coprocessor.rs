@@ -150,8 +150,9 @@ impl Coprocessor {
     pub(crate) fn draw(&mut self, memory: &mut [u8], allowance: u32) -> u32 {
         let mut done = 0;
         while done < allowance && self.drawing.is_unfinished() {
-            position::draw(&self.registers, &self.drawing, memory);
-            self.drawing = moves::advance(&mut self.registers, self.drawing);
+            let is_foreground = position::is_foreground(&self.registers, &self.drawing, memory);
+            position::draw(&self.registers, &self.drawing, is_foreground, memory);
+            self.drawing = moves::advance(&mut self.registers, self.drawing, is_foreground);
             done += 1;
         }
         done

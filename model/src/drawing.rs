@@ -15,6 +15,8 @@ pub enum Drawing {
     Line {
         /// Positions done in this line.
         done: u16,
+        /// The look-back bit: whether the last step of an area boundary rose by a row.
+        rose: bool,
     },
     /// A run of codes.
     Codes {
@@ -31,6 +33,15 @@ pub enum Drawing {
         column: u16,
         /// Rows done.
         row: u16,
+    },
+    /// An area fill.
+    Fill {
+        /// Positions done in this row.
+        column: u16,
+        /// Rows done.
+        row: u16,
+        /// Whether the position before this one in its row was inside.
+        inside: bool,
     },
 }
 
@@ -50,7 +61,9 @@ impl Drawing {
                 .take_while(|byte| *byte != codes::STOP)
                 .map(|byte| Code::of(byte).positions())
                 .sum(),
-            Drawing::Block { .. } => size(registers.dimension_1) * size(registers.dimension_2),
+            Drawing::Block { .. } | Drawing::Fill { .. } => {
+                size(registers.dimension_1) * size(registers.dimension_2)
+            }
         }
     }
 
@@ -58,7 +71,7 @@ impl Drawing {
     pub fn done(&self, registers: &Registers) -> u64 {
         match *self {
             Drawing::Nothing { .. } => 0,
-            Drawing::Line { done } => u64::from(done),
+            Drawing::Line { done, .. } => u64::from(done),
             Drawing::Codes { count, code, done } => {
                 let earlier: u64 = codes::of_write(registers.steps, count)
                     .into_iter()
@@ -67,7 +80,7 @@ impl Drawing {
                     .sum();
                 earlier + u64::from(done)
             }
-            Drawing::Block { column, row } => {
+            Drawing::Block { column, row } | Drawing::Fill { column, row, .. } => {
                 u64::from(row) * size(registers.dimension_1) + u64::from(column)
             }
         }
@@ -77,10 +90,11 @@ impl Drawing {
     pub fn has_position(&self, registers: &Registers) -> bool {
         match *self {
             Drawing::Nothing { .. } => false,
-            Drawing::Line { done } => done <= registers.dimension_1,
-            Drawing::Codes { count, code, done } => codes::byte(registers.steps, count, code)
-                .is_some_and(|byte| done <= Code::of(byte).steps),
-            Drawing::Block { column, row } => {
+            Drawing::Line { done, .. } => done <= registers.dimension_1,
+            Drawing::Codes { count, code, done } => {
+                codes::at(registers.steps, count, code).is_some_and(|current| done <= current.steps)
+            }
+            Drawing::Block { column, row } | Drawing::Fill { column, row, .. } => {
                 column <= registers.dimension_1 && row <= registers.dimension_2
             }
         }

@@ -42,6 +42,8 @@ const VERSION_1: u32 = 1;
 const IDLE: u32 = 0;
 const DRAWING: u32 = 1;
 const STOPPED: u32 = 2;
+/// 02, 102: drawing, and inside or after a step that an area boundary looks back at.
+const DRAWING_INSIDE: u32 = 3;
 
 /// Bytes 9 to 14.
 struct Counters {
@@ -100,7 +102,8 @@ pub fn loaded(bytes: &[u8]) -> Option<Coprocessor> {
     let drawing = match counters.state {
         IDLE if counters.are_zero() => Drawing::Nothing { stopped: false },
         STOPPED if counters.are_zero() => Drawing::Nothing { stopped: true },
-        DRAWING => drawing_at(&registers, size, &counters)?,
+        DRAWING => drawing_at(&registers, size, &counters, false)?,
+        DRAWING_INSIDE => drawing_at(&registers, size, &counters, true)?,
         _ => return None,
     };
     Some(Coprocessor {
@@ -130,9 +133,14 @@ fn counters_of(drawing: &Drawing) -> Counters {
     let (state, positions_done, rows_or_codes_done, codes) = match *drawing {
         Drawing::Nothing { stopped: false } => (IDLE, 0, 0, 0),
         Drawing::Nothing { stopped: true } => (STOPPED, 0, 0, 0),
-        Drawing::Line { done } => (DRAWING, done, 0, 0),
+        Drawing::Line { done, rose } => (drawing_state(rose), done, 0, 0),
         Drawing::Codes { count, code, done } => (DRAWING, done, code, count),
         Drawing::Block { column, row } => (DRAWING, column, row, 0),
+        Drawing::Fill {
+            column,
+            row,
+            inside,
+        } => (drawing_state(inside), column, row, 0),
     };
     Counters {
         state,
@@ -142,16 +150,32 @@ fn counters_of(drawing: &Drawing) -> Counters {
     }
 }
 
-/// State 1: the drawing of the stored function at the counters, if every rule of that state holds.
-fn drawing_at(registers: &Registers, size: u32, counters: &Counters) -> Option<Drawing> {
+/// The state of a drawing with its bit.
+fn drawing_state(bit: bool) -> u32 {
+    if bit {
+        DRAWING_INSIDE
+    } else {
+        DRAWING
+    }
+}
+
+/// States 1 and 3: the drawing of the stored function at the counters, if every rule of that state holds.
+fn drawing_at(registers: &Registers, size: u32, counters: &Counters, bit: bool) -> Option<Drawing> {
     let done = counters.positions_done as u16;
     let rows_or_codes_done = counters.rows_or_codes_done as u16;
     // Counters not of that function are zero, 12 too for a line.
     let drawing = match registers.fields().kind()? {
-        Kind::Line if rows_or_codes_done == 0 && counters.codes == 0 => Drawing::Line { done },
+        Kind::Line if rows_or_codes_done == 0 && counters.codes == 0 => {
+            Drawing::Line { done, rose: bit }
+        }
         Kind::Block if counters.codes == 0 => Drawing::Block {
             column: done,
             row: rows_or_codes_done,
+        },
+        Kind::Fill if counters.codes == 0 => Drawing::Fill {
+            column: done,
+            row: rows_or_codes_done,
+            inside: bit,
         },
         Kind::Codes => Drawing::Codes {
             count: counters.codes as u8,
@@ -162,9 +186,19 @@ fn drawing_at(registers: &Registers, size: u32, counters: &Counters) -> Option<D
     };
     let goes_on = start::check(registers, size).is_ok()
         && drawing.has_position(registers)
+        && (!bit || may_have_bit(registers, &drawing))
         && codes_are_right(registers, &drawing)
         && start::pointers_lie_in_maps(registers);
     goes_on.then_some(drawing)
+}
+
+/// 02, 102: a position is done in the row of a fill, or in a line that draws an area boundary, in either direction of Y.
+fn may_have_bit(registers: &Registers, drawing: &Drawing) -> bool {
+    match *drawing {
+        Drawing::Line { done, .. } => done > 0 && registers.fields().draws_boundary(),
+        Drawing::Fill { column, .. } => column > 0,
+        _ => false,
+    }
 }
 
 /// Codes number 1, 2 or 4, and none up to the current one, itself included, is 00.

@@ -3,11 +3,13 @@
 //! Where 003 overrules 01 the difference is D1 to D4 of docs/DIFFERENCES.md.
 //! Where the papers are silent, docs/DECISIONS.md decides.
 
+pub mod boundary;
 pub mod circle;
 pub mod codes;
 pub mod coprocessor;
 pub mod drawing;
 pub mod fast;
+pub mod fates;
 pub mod image;
 pub mod map;
 pub mod mixes;
@@ -16,6 +18,7 @@ pub mod operations;
 pub mod pixels;
 pub mod position;
 pub mod random;
+pub mod random_damage;
 pub mod random_drawings;
 mod reach;
 pub mod refusals;

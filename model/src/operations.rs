@@ -40,6 +40,8 @@ pub const LINE_WRITE: u32 = 5;
 pub const PXBLT: u32 = 8;
 /// Inverting PxBlt.
 pub const INVERTING_PXBLT: u32 = 9;
+/// Area fill.
+pub const AREA_FILL: u32 = 10;
 
 /// Pattern code: always 1.
 pub const PATTERN_FOREGROUND: u32 = 8;
@@ -58,10 +60,10 @@ pub const MASK_RESERVED: u32 = 0b11;
 pub const FIRST_NULL: u32 = 0b01;
 /// Drawing mode: last pixel null (003:2959; docs/DIFFERENCES.md on 003:4714).
 pub const LAST_NULL: u32 = 0b10;
-/// Drawing mode: area boundary, which is out.
+/// Drawing mode: area boundary.
 pub const AREA_BOUNDARY: u32 = 0b11;
 
-/// The kinds of drawing (01, What the board draws).
+/// The kinds of drawing (01, What the board draws; 02, 102).
 #[derive(Clone, Copy, Debug, PartialEq, Eq)]
 pub enum Kind {
     /// A line.
@@ -70,6 +72,8 @@ pub enum Kind {
     Codes,
     /// A block.
     Block,
+    /// An area fill.
+    Fill,
 }
 
 impl Operations {
@@ -88,12 +92,13 @@ impl Operations {
         }
     }
 
-    /// What the function draws, if it is 2, 3, 4, 5, 8 or 9.
+    /// What the function draws, if it is 2, 3, 4, 5, 8, 9 or 10.
     pub fn kind(&self) -> Option<Kind> {
         match self.function {
             LINE_READ | LINE_WRITE => Some(Kind::Line),
             CODES_READ | CODES_WRITE => Some(Kind::Codes),
             PXBLT | INVERTING_PXBLT => Some(Kind::Block),
+            AREA_FILL => Some(Kind::Fill),
             _ => None,
         }
     }
@@ -101,6 +106,12 @@ impl Operations {
     /// Whether the function is a read form.
     pub fn is_read_form(&self) -> bool {
         matches!(self.function, CODES_READ | LINE_READ)
+    }
+
+    /// Whether a line or codes draw an area boundary; blocks and fills ignore the drawing mode.
+    pub fn draws_boundary(&self) -> bool {
+        let has_mode = matches!(self.kind(), Some(Kind::Line | Kind::Codes));
+        has_mode && self.drawing_mode == AREA_BOUNDARY
     }
 
     /// Whether the source map is used as colour: a source field is 10.

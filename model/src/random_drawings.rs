@@ -1,21 +1,21 @@
-//! Random drawings that the start rules accept, and random damage to a record.
+//! Random drawings that the start rules accept.
 
 use crate::codes;
 use crate::coprocessor::Coprocessor;
-use crate::drawing::Drawing;
 use crate::operations::{self, Kind, Operations};
 use crate::pixels;
 use crate::random::Random;
-use crate::registers::{LISTED, STEPS_START};
+use crate::registers::STEPS_START;
 
 /// The functions that draw.
-pub const FUNCTIONS: [u32; 6] = [
+pub const FUNCTIONS: [u32; 7] = [
     operations::CODES_READ,
     operations::LINE_READ,
     operations::CODES_WRITE,
     operations::LINE_WRITE,
     operations::PXBLT,
     operations::INVERTING_PXBLT,
+    operations::AREA_FILL,
 ];
 
 /// The most pixels along a map's side.
@@ -44,7 +44,7 @@ pub fn drawing(random: &mut Random, function: u32) -> RandomDrawing {
     let mut writes = map_writes(random, &Operations::of(operations), size);
     writes.extend(term_writes(random));
     writes.extend(pixel_writes(random));
-    writes.extend(place_writes(random));
+    writes.extend(place_writes(random, &Operations::of(operations)));
     writes.push((0x7C, 4, operations));
     if Operations::of(operations).kind() == Some(Kind::Codes) {
         writes.push(code_write(random));
@@ -61,66 +61,28 @@ pub fn started(drawing: &RandomDrawing) -> (Coprocessor, Vec<u8>) {
     (coprocessor, drawing.memory.clone())
 }
 
-/// Puts random values, not reduced, into one register, the size or the drawing in hand of the record.
-pub fn damage(random: &mut Random, coprocessor: &mut Coprocessor) {
-    match random.below(8) {
-        0 => coprocessor.size = random.word() >> random.below(32),
-        1 | 2 => coprocessor.drawing = any_drawing(random),
-        _ => {
-            let map = random.below(4) as usize;
-            let (first, bytes, _) = LISTED[random.below(LISTED.len() as u32) as usize];
-            for offset in first..first + bytes {
-                let byte = random.word() as u8;
-                coprocessor.registers.take_byte(map, offset, byte);
-            }
-        }
-    }
-}
-
-/// Any drawing in hand, with small or large counters.
-fn any_drawing(random: &mut Random) -> Drawing {
-    let limit = random.pick(&[2, 5, 20, 65_536]);
-    let mut counter = || random.below(limit) as u16;
-    let (first, second) = (counter(), counter());
-    match random.below(4) {
-        0 => Drawing::Nothing {
-            stopped: first % 2 == 1,
-        },
-        1 => Drawing::Line { done: first },
-        2 => Drawing::Codes {
-            count: random.below(6) as u8,
-            code: first,
-            done: second,
-        },
-        _ => Drawing::Block {
-            column: first,
-            row: second,
-        },
-    }
-}
-
 /// Pixel operations of a function; what refusal 5 does not look at may hold anything.
 fn random_operations(random: &mut Random, function: u32) -> u32 {
     let sources = [operations::COLOUR, operations::SOURCE_MAP];
+    let (patterns, octants): (&[u32], u32) = match function {
+        operations::AREA_FILL => (&[1, 2, 3], 4),
+        _ => (&[1, 2, 3, 8, 9], 8),
+    };
     let fields = function << 24
         | random.pick(&sources) << 30
         | random.pick(&sources) << 28
         | random.pick(&[1, 2, 3]) << 16
-        | random.pick(&[1, 2, 3, 8, 9]) << 12
+        | random.pick(patterns) << 12
         | random.below(3) << 6
-        | random.below(8);
+        | random.below(4) << 4
+        | random.below(octants);
     let unused = random.word() & 0x0000_0F08;
     let source = if Operations::of(fields).uses_source() {
         random.pick(&[1, 2, 3])
     } else {
         random.below(16)
     };
-    let drawing_mode = if Operations::of(fields).kind() == Some(Kind::Block) {
-        random.below(4)
-    } else {
-        random.below(3)
-    };
-    fields | unused | source << 20 | drawing_mode << 4
+    fields | unused | source << 20
 }
 
 /// Writes for four small maps; those used have formats that go together and lie in the memory.
@@ -210,18 +172,19 @@ fn pixel_writes(random: &mut Random) -> Vec<Write> {
     writes
 }
 
-/// Writes of the mask origin and of the source, pattern and destination pointers.
-fn place_writes(random: &mut Random) -> Vec<Write> {
+/// Writes of the mask origin and of the source, pattern and destination pointers; an area boundary is often left of its map.
+fn place_writes(random: &mut Random, operations: &Operations) -> Vec<Write> {
     let mut writes = vec![(0x6C, 2, random.below(3)), (0x6E, 2, random.below(3))];
     for offset in [0x70, 0x72, 0x74, 0x76] {
         let limit = random.pick(&[12, 4_096]);
         writes.push((offset, 2, random.below(limit)));
     }
-    for offset in [0x78, 0x7A] {
+    let leftmost = if operations.draws_boundary() { -6 } else { -1 };
+    for (offset, first) in [(0x78, leftmost), (0x7A, -1)] {
         let pointer = match random.below(32) {
             0 => random.between(6_138, 6_143),
             1 => random.between(-2_048, -2_043),
-            _ => random.between(-1, 6),
+            _ => random.between(first, 6),
         };
         writes.push((offset, 2, pointer as u32));
     }

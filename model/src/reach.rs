@@ -2,6 +2,8 @@
 //!
 //! The rules of a start, of a load and of refusal 10 leave no such pixel, and the test of every one bears witness to that.
 
+use crate::map::Map;
+use crate::pixels;
 use std::fmt;
 
 /// What a position takes the pixel's map for.
@@ -11,6 +13,26 @@ pub(crate) enum Role {
     Pattern,
     Mask,
     Destination,
+}
+
+/// The pixel of a map.
+pub(crate) fn read(role: Role, map: &Map, (x, y): (u32, u32), memory: &[u8]) -> u32 {
+    must_lie_within(role, map, (x, y), memory);
+    pixels::get(memory, map.base, map.row_length(), map.bits(), x, y)
+}
+
+/// Makes the destination's pixel the value.
+pub(crate) fn write(map: &Map, (x, y): (u32, u32), memory: &mut [u8], value: u32) {
+    must_lie_within(Role::Destination, map, (x, y), memory);
+    pixels::put(memory, map.base, map.row_length(), map.bits(), x, y, value);
+}
+
+/// Panics where the pixel of a map lies beyond the memory.
+fn must_lie_within(role: Role, map: &Map, (x, y): (u32, u32), memory: &[u8]) {
+    let (base, row_length, bits) = (map.base, map.row_length(), map.bits());
+    if !pixels::lies_within(memory.len(), base, row_length, bits, x, y) {
+        fail(role, (x, y), memory.len());
+    }
 }
 
 /// Panics, naming the pixel and the bytes of the memory.
@@ -33,6 +55,7 @@ impl fmt::Display for Role {
 
 #[cfg(test)]
 mod tests {
+    use super::*;
     use crate::{fast, Coprocessor};
 
     const MASK: u32 = 0;
@@ -79,6 +102,18 @@ mod tests {
 
     fn draw_fast(reaching: u32) {
         fast::draw(&mut started(reaching), &mut [0xFF; LENT], u32::MAX);
+    }
+
+    #[test]
+    #[should_panic(expected = "the destination pixel (5, 0) reaches beyond a memory of 5 bytes")]
+    fn a_write_tests_its_pixel_though_a_read_came_before() {
+        let row = Map {
+            base: 0,
+            width: 7,
+            height: 0,
+            format: 3,
+        };
+        write(&row, (5, 0), &mut [0; 5], 1);
     }
 
     #[test]

@@ -16,7 +16,7 @@ pub(crate) fn started(registers: &Registers, offset: u32, length: u32) -> Option
     let touched = offset..offset + length;
     let kind = registers.fields().kind()?;
     let starting_byte = match kind {
-        Kind::Line | Kind::Block => OPERATIONS_START,
+        Kind::Line | Kind::Block | Kind::Fill => OPERATIONS_START,
         Kind::Codes => STEPS_START,
     };
     touched.contains(&starting_byte).then_some(kind)
@@ -38,14 +38,14 @@ pub fn check(registers: &Registers, size: u32) -> Result<(), Refusal> {
     }
 }
 
-/// Refusal 5, in the paper's order.
+/// Refusal 5, in the paper's order; 02, 102: a fill scans a pattern map, from left to right.
 fn fields_are_accepted(operations: &Operations) -> bool {
     let is_source = |field| matches!(field, operations::COLOUR | operations::SOURCE_MAP);
     let has_pattern = matches!(
         operations.pattern,
         operations::PATTERN_FOREGROUND | operations::PATTERN_FROM_SOURCE
     ) || operations.uses_pattern();
-    let is_block = operations.kind() == Some(Kind::Block);
+    let can_be_scanned = operations.uses_pattern() && operations.x_sign() > 0;
 
     is_source(operations.foreground_source)
         && is_source(operations.background_source)
@@ -53,7 +53,7 @@ fn fields_are_accepted(operations: &Operations) -> bool {
         && has_pattern
         && operations.mask != operations::MASK_RESERVED
         && (!operations.uses_source() || operations::is_general_map(operations.source))
-        && (is_block || operations.drawing_mode != operations::AREA_BOUNDARY)
+        && (operations.kind() != Some(Kind::Fill) || can_be_scanned)
 }
 
 /// Refusal 7, in the paper's order.
@@ -111,8 +111,16 @@ pub fn pointers_lie_in_maps(registers: &Registers) -> bool {
 /// The drawing in hand after an accepted start by a write of `length` bytes.
 pub(crate) fn first(registers: &Registers, kind: Kind, length: u32) -> Drawing {
     match kind {
-        Kind::Line => Drawing::Line { done: 0 },
+        Kind::Line => Drawing::Line {
+            done: 0,
+            rose: false,
+        },
         Kind::Block => Drawing::Block { column: 0, row: 0 },
+        Kind::Fill => Drawing::Fill {
+            column: 0,
+            row: 0,
+            inside: false,
+        },
         Kind::Codes => moves::passage(registers, length as u8, 0),
     }
 }

@@ -2,10 +2,10 @@
 
 use model::random::Random;
 use model::random_drawings::{drawing, started, RandomDrawing, FUNCTIONS};
-use model::Coprocessor;
+use model::{Coprocessor, Drawing};
 
 /// The drawings of each function.
-const DRAWINGS: usize = 24;
+const DRAWINGS: usize = 48;
 
 /// Random drawings of a function that have positions, in memories of several sizes.
 fn drawings(function: u32) -> Vec<RandomDrawing> {
@@ -51,12 +51,18 @@ fn uncut(drawing: &RandomDrawing) -> (Coprocessor, Vec<u8>, u32) {
 #[test]
 fn cut_at_every_position_and_moved_to_another_coprocessor() {
     let others = others();
+    let mut cuts_with_bit = [0; 2];
     for function in FUNCTIONS {
         for drawing in drawings(function) {
             let (end, end_memory, total) = uncut(&drawing);
             let (mut coprocessor, mut memory) = started(&drawing);
             for (cut, other) in (0..=total).zip(others.iter().cycle()) {
                 assert_eq!(coprocessor.left(), u64::from(total - cut));
+                match coprocessor.drawing {
+                    Drawing::Line { rose: true, .. } => cuts_with_bit[0] += 1,
+                    Drawing::Fill { inside: true, .. } => cuts_with_bit[1] += 1,
+                    _ => {}
+                }
                 let mut resumed = moved(other, &coprocessor);
                 let mut resumed_memory = memory.clone();
                 let answer = resumed.run(&mut resumed_memory, u32::MAX);
@@ -69,6 +75,7 @@ fn cut_at_every_position_and_moved_to_another_coprocessor() {
             }
         }
     }
+    assert!(cuts_with_bit[0] > 50 && cuts_with_bit[1] > 500);
 }
 
 #[test]
@@ -122,8 +129,8 @@ fn the_drawings_are_varied() {
             .collect();
         sizes.sort();
         sizes.dedup();
-        assert!(sizes.len() >= 12);
+        assert!(sizes.len() >= 24);
         let changed = |drawing: &&RandomDrawing| uncut(drawing).1 != drawing.memory;
-        assert!(drawings.iter().filter(changed).count() >= 6);
+        assert!(drawings.iter().filter(changed).count() >= 8);
     }
 }

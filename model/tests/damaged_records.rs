@@ -3,11 +3,11 @@
 mod common;
 
 use common::states::unfinished;
-use common::{Board, IDLE};
-use model::{Coprocessor, Drawing};
+use common::{line_at, Board, FILL_BEGUN, IDLE};
+use model::{fast, Coprocessor, Drawing};
 
 /// Damage that leaves a record which its own image would not load to.
-const DAMAGE: [fn(&mut Coprocessor); 33] = [
+const DAMAGE: [fn(&mut Coprocessor); 40] = [
     |c| c.size = 0,
     |c| c.size = 1_048_577,
     |c| c.registers.index = 4,
@@ -29,13 +29,14 @@ const DAMAGE: [fn(&mut Coprocessor); 33] = [
     |c| c.registers.destination_x = 6_144,
     |c| c.registers.destination_y = -2_049,
     // The record has stored function 5, a line of four positions.
-    |c| c.drawing = Drawing::Line { done: 4 },
-    |c| c.drawing = Drawing::Line { done: 65_535 },
+    |c| c.drawing = line_at(4),
+    |c| c.drawing = line_at(65_535),
     |c| c.drawing = Drawing::Block { column: 0, row: 0 },
+    |c| c.drawing = FILL_BEGUN,
     |c| c.drawing = codes(1, 0, 0),
     |c| {
         c.registers.operations = 0x0801_8000;
-        c.drawing = Drawing::Line { done: 1 };
+        c.drawing = line_at(1);
     },
     |c| {
         c.registers.operations = 0x0801_8000;
@@ -67,13 +68,53 @@ const DAMAGE: [fn(&mut Coprocessor); 33] = [
     },
     |c| {
         c.registers.operations = 0x0001_8000;
-        c.drawing = Drawing::Line { done: 0 };
+        c.drawing = line_at(0);
     },
     |c| {
         c.registers.foreground_mix = 0x16;
-        c.drawing = Drawing::Line { done: 0 };
+        c.drawing = line_at(0);
+    },
+    // The look-back bit in another mode, and at the first position.
+    |c| {
+        c.drawing = Drawing::Line {
+            done: 1,
+            rose: true,
+        }
+    },
+    |c| {
+        c.registers.operations = 0x0501_8032;
+        c.drawing = Drawing::Line {
+            done: 0,
+            rose: true,
+        };
+    },
+    // Inside at the first position of a row, a fill that is done, one to the left, and one without a pattern map.
+    |c| {
+        c.registers.operations = 0x0A01_2000;
+        c.drawing = fill(0, true);
+    },
+    |c| {
+        c.registers.operations = 0x0A01_2000;
+        c.drawing = fill(4, true);
+    },
+    |c| {
+        c.registers.operations = 0x0A01_2004;
+        c.drawing = fill(1, true);
+    },
+    |c| {
+        c.registers.operations = 0x0A01_8000;
+        c.drawing = fill(1, true);
     },
 ];
+
+/// A fill in its first row.
+fn fill(column: u16, inside: bool) -> Drawing {
+    Drawing::Fill {
+        column,
+        row: 0,
+        inside,
+    }
+}
 
 fn codes(count: u8, code: u16, done: u16) -> Drawing {
     Drawing::Codes { count, code, done }
@@ -95,6 +136,8 @@ fn refusal_10_every_call_but_load_on_a_damaged_record() {
             assert_eq!(damaged.coprocessor.read(0x58, 4), (10, 0));
             let mut memory = vec![0; damaged.coprocessor.size as usize];
             assert_eq!(damaged.coprocessor.run(&mut memory, 9), (10, 0));
+            let fast = fast::run(&mut damaged.coprocessor, &mut memory, 9);
+            assert_eq!(fast, (10, 0), "{number}");
             let mut buffer = [7; 115];
             assert_eq!(damaged.coprocessor.save(&mut buffer), 10);
             assert_eq!(buffer, [7; 115]);
@@ -103,6 +146,35 @@ fn refusal_10_every_call_but_load_on_a_damaged_record() {
             assert_eq!(damaged.coprocessor.load(&whole.image()), 0);
             assert_eq!(damaged, whole);
         }
+    }
+}
+
+#[test]
+fn a_record_with_its_bit_in_place_is_not_refused() {
+    // The same records, put right: an area boundary after a position, whether it goes up or down, and a fill in mid row.
+    let bits = [
+        (
+            0x0501_8032,
+            Drawing::Line {
+                done: 1,
+                rose: true,
+            },
+        ),
+        (
+            0x0501_8030,
+            Drawing::Line {
+                done: 1,
+                rose: true,
+            },
+        ),
+        (0x0A01_2000, fill(1, true)),
+    ];
+    for (operations, drawing) in bits {
+        let mut board = unfinished();
+        board.coprocessor.registers.operations = operations;
+        board.coprocessor.drawing = drawing;
+        assert!(board.coprocessor.is_valid());
+        assert_eq!(board.finish(), 3);
     }
 }
 

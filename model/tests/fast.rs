@@ -1,7 +1,8 @@
 //! The fast runner against the clear one: the same refusals, positions, registers and memory.
 
 use model::random::Random;
-use model::random_drawings::{damage, drawing, started, FUNCTIONS};
+use model::random_damage::damage;
+use model::random_drawings::{drawing, started, FUNCTIONS};
 use model::{fast, Coprocessor};
 
 /// Both runs on copies of one state and memory: all that they change and answer is the same; the answer.

@@ -134,7 +134,13 @@ fn last_null_is_mode_10() {
     board.operations(0x0501_8020);
     board.finish();
     assert_eq!(board.memory, [0xFF, 0xFF, 0]);
-    assert_eq!(board.refusal(0x7C, 4, 0x0501_8030), 5);
+
+    // Mode 11 is the area boundary, which draws nothing of a horizontal line.
+    board.memory.fill(0);
+    board.destination(0, 0);
+    board.operations(0x0501_8030);
+    board.finish();
+    assert_eq!(board.memory, [0, 0, 0]);
 }
 
 #[test]

@@ -31,7 +31,7 @@ fn mark_version_size_and_state_are_looked_at() {
         (5, &[0, 0, 0, 0], "size 0"),
         (5, &[1, 0, 0x10, 0], "size 1,048,577"),
         (5, &[0, 0, 0, 1], "size 16,777,216"),
-        (9, &[3], "state"),
+        (9, &[4], "state"),
         (9, &[255], "state"),
     ];
     for (at, bytes, rule) in rules {
@@ -170,16 +170,15 @@ fn no_code_up_to_the_current_one_is_00() {
 
 #[test]
 fn a_drawing_image_keeps_the_start_rules() {
-    let rules: [(usize, &[u8], &str); 16] = [
+    let rules: [(usize, &[u8], &str); 15] = [
         (114, &[0x20], "function 0"),
-        (114, &[0x2A], "function 10"),
+        (114, &[0x2B], "function 11"),
         (114, &[0x15], "foreground source 01"),
         (114, &[0xE5], "background source 11"),
         (113, &[0x20], "destination 0"),
         (113, &[0x01], "source 0 though used"),
         (112, &[0x00], "pattern 0"),
         (111, &[0xC0], "mask 11"),
-        (111, &[0x30], "drawing mode 11"),
         (68, &[0x16], "foreground mix"),
         (69, &[0x16], "background mix"),
         (33, &[0x0B], "destination with the order bit"),

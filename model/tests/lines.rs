@@ -2,8 +2,7 @@
 
 mod common;
 
-use common::{Board, BITS_8, IDLE};
-use model::Drawing;
+use common::{line_at, Board, BITS_8, IDLE};
 
 #[test]
 fn the_total_of_a_line_is_dimension_1_and_1() {
@@ -19,7 +18,7 @@ fn the_total_of_a_line_is_dimension_1_and_1() {
         (10, 10)
     );
     assert_eq!(board.run(4), 4);
-    assert_eq!(board.coprocessor.drawing, Drawing::Line { done: 4 });
+    assert_eq!(board.coprocessor.drawing, line_at(4));
     assert_eq!(
         (board.coprocessor.total(), board.coprocessor.left()),
         (10, 6)

@@ -1,7 +1,8 @@
 //! Random drawings, writes, images and damaged records: no call panics, and every record stays valid.
 
 use model::random::Random;
-use model::random_drawings::{damage, drawing, started, FUNCTIONS};
+use model::random_damage::damage;
+use model::random_drawings::{drawing, started, FUNCTIONS};
 use model::{Coprocessor, Drawing};
 
 /// A drawing just started, of any function.

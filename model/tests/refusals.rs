@@ -89,7 +89,7 @@ fn refusal_3_the_gaps_of_the_bank() {
 
 #[test]
 fn refusal_4_a_function_that_does_not_draw() {
-    for function in [0, 1, 6, 7, 10, 11, 12, 13, 14, 15] {
+    for function in [0, 1, 6, 7, 11, 12, 13, 14, 15] {
         let mut board = Board::square(4);
         assert_eq!(board.refusal(0x7C, 4, function << 24 | 0x1_8000), 4);
         assert_eq!(board.refusal(0x7E, 2, function << 8 | 1), 4);
@@ -107,10 +107,12 @@ fn refusal_5_each_field() {
         0x3801_8000,
         // Mask 11.
         0x0801_80C0,
-        // Drawing mode 11 for lines.
-        0x0301_8030,
-        0x0501_8030,
+        // A fill to the left, whether or not upwards.
+        0x0A01_2004,
+        0x0A01_2006,
     ];
+    // A fill whose pattern is no map, among them those that other functions accept.
+    fields.extend([0].into_iter().chain(4..16).map(|p| 0x0A11_0000 | p << 12));
     fields.extend([0].into_iter().chain(4..16).map(|d| 0x0800_8000 | d << 16));
     fields.extend(
         [0, 4, 5, 6, 7]
@@ -128,12 +130,30 @@ fn refusal_5_each_field() {
 }
 
 #[test]
-fn refusal_5_drawing_mode_11_for_codes() {
-    for function in [2, 4] {
+fn drawing_mode_11_and_function_10_are_no_longer_refused() {
+    for operations in [0x0301_8030, 0x0501_8030, 0x0A01_2000, 0x0A01_2033] {
         let mut board = Board::square(4);
-        board.operations(function << 24 | 0x1_8030);
-        assert_eq!(board.refusal(0x2F, 1, 0x10), 5);
+        board.operations(operations);
+        assert!(board.coprocessor.drawing.is_unfinished());
     }
+    for operations in [0x0201_8030, 0x0401_8030] {
+        let mut board = Board::square(4);
+        board.operations(operations);
+        board.codes(&[0x10]);
+        assert!(board.coprocessor.drawing.is_unfinished());
+    }
+}
+
+#[test]
+fn a_fill_is_refused_in_the_old_place_of_5() {
+    let mut board = Board::new(16);
+    board.map(1, 16, 1, 1, 7);
+    board.write(0x48, 1, 0x16);
+    for operations in [0x0A01_2004, 0x0A01_8000, 0x0A11_9000] {
+        assert_eq!(board.refusal(0x7C, 4, operations), 5);
+    }
+    assert_eq!(board.refusal(0x7C, 4, 0x0A01_2000), 6);
+    assert_eq!(unfinished().refusal(0x7C, 4, 0x0A01_2004), 2);
 }
 
 #[test]

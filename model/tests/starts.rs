@@ -2,7 +2,7 @@
 
 mod common;
 
-use common::{Board, BITS_1, BITS_4, BITS_8, IDLE, STOPPED};
+use common::{line_at, Board, BITS_1, BITS_4, BITS_8, FILL_BEGUN, IDLE, STOPPED};
 use model::Drawing;
 
 /// Writes the pixel operations with a last write of so many bytes, the lower bytes before.
@@ -16,17 +16,18 @@ fn write_operations(board: &mut Board, value: u32, last_length: u32) {
 }
 
 #[test]
-fn every_write_covering_7f_starts_lines_and_blocks() {
+fn every_write_covering_7f_starts_lines_blocks_and_fills() {
     let starts = [
-        (3, Drawing::Line { done: 0 }),
-        (5, Drawing::Line { done: 0 }),
-        (8, Drawing::Block { column: 0, row: 0 }),
-        (9, Drawing::Block { column: 0, row: 0 }),
+        (0x0301_8000, line_at(0)),
+        (0x0501_8000, line_at(0)),
+        (0x0801_8000, Drawing::Block { column: 0, row: 0 }),
+        (0x0901_8000, Drawing::Block { column: 0, row: 0 }),
+        (0x0A01_2000, FILL_BEGUN),
     ];
-    for (function, drawing) in starts {
+    for (operations, drawing) in starts {
         for length in [1, 2, 4] {
             let mut board = Board::square(4);
-            write_operations(&mut board, function << 24 | 0x1_8000, length);
+            write_operations(&mut board, operations, length);
             assert_eq!(board.coprocessor.drawing, drawing);
         }
     }

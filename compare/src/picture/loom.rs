@@ -17,7 +17,14 @@ const LINE: u32 = 0x0500_8000;
 const BLOCK: u32 = 0x0800_8000;
 const TILED_BLOCK: u32 = 0x0800_3000;
 const INVERTING_BLOCK_FROM_SOURCE: u32 = 0x2920_8000;
+const FILL: u32 = 0x0A00_3000;
 const MASKED: u32 = 0x0000_0080;
+const BOUNDARY: u32 = 0x0000_0030;
+
+/// Mixes, of the foreground and the background.
+const SOURCE_BOTH: u32 = 0x0303;
+const SOURCE_OR_DESTINATION: u32 = 0x0503;
+const XOR_BOTH: u32 = 0x0606;
 
 /// A pixel.
 pub type Point = (i32, i32);
@@ -39,7 +46,7 @@ impl Loom {
             memory: vec![0; size as usize],
             positions: 0,
         };
-        loom.write(0x48, 2, 0x0303);
+        loom.write(0x48, 2, SOURCE_BOTH);
         loom.write(0x4A, 1, 4);
         loom.write(0x50, 4, 0xFF);
         loom
@@ -107,6 +114,33 @@ impl Loom {
 
     /// A line with both its ends.
     pub fn line(&mut self, map: u32, from: Point, to: Point, colour: u32) {
+        self.line_of(LINE | map << 16, from, to, colour);
+    }
+
+    /// Turns the bitmap's pixels along the area boundary of a closed outline.
+    pub fn outline(&mut self, points: &[Point]) {
+        self.write(0x48, 2, XOR_BOTH);
+        let next = points.iter().cycle().skip(1);
+        for (from, to) in points.iter().zip(next) {
+            self.line_of(LINE | BITMAP << 16 | BOUNDARY, *from, *to, 1);
+        }
+        self.write(0x48, 2, SOURCE_BOTH);
+    }
+
+    /// Fills a block of the cloth where the outline in the bitmap, which begins at the block's corner, has its inside.
+    pub fn fill(&mut self, at: Point, size: Point, colour: u32) {
+        self.write(0x48, 2, SOURCE_OR_DESTINATION);
+        self.write(0x58, 4, colour);
+        self.write(0x60, 4, pair((size.0 - 1, size.1 - 1)));
+        self.write(0x74, 4, pair((0, 0)));
+        self.write(0x78, 4, pair(at));
+        self.write(0x7C, 4, FILL | CLOTH << 16);
+        self.run();
+        self.write(0x48, 2, SOURCE_BOTH);
+    }
+
+    /// A line by 003's terms.
+    fn line_of(&mut self, operations: u32, from: Point, to: Point, colour: u32) {
         let (x, y) = (to.0 - from.0, to.1 - from.1);
         let (major, minor) = (x.abs().max(y.abs()), x.abs().min(y.abs()));
         let octant = u32::from(x < 0) << 2 | u32::from(y < 0) << 1 | u32::from(y.abs() > x.abs());
@@ -116,7 +150,7 @@ impl Loom {
         self.write(0x58, 4, colour);
         self.write(0x60, 2, major as u32);
         self.write(0x78, 4, pair(from));
-        self.write(0x7C, 4, LINE | map << 16 | octant);
+        self.write(0x7C, 4, operations | octant);
         self.run();
     }
 

@@ -1,14 +1,15 @@
-//! A figured cloth: a lattice ground, a border, roses and horns, and a medallion in the middle.
+//! A figured cloth: a lattice ground, a border, roses, leaves and horns, and a medallion in the middle.
 
 use crate::loom::{Loom, Point, BITMAP, BITS_1, BITS_8, CLOTH, MASK, SOURCE};
 
 /// The cloth's size; left mirrors right, and bottom mirrors top.
 pub const SIZE: Point = (160, 120);
 
-/// The bytes of the memory, and where the tile and the mask lie in it, behind the cloth.
+/// The bytes of the memory, and where the tile, the mask and a leaf's outline lie in it, behind the cloth.
 pub const MEMORY: u32 = 0x8000;
 const TILE_AT: u32 = 0x6000;
 const MASK_AT: u32 = 0x6100;
+const LEAF_AT: u32 = 0x6300;
 
 const DARK: u32 = 0x18;
 const DEEP: u32 = 0x58;
@@ -24,6 +25,11 @@ const FRAMES: [u32; 13] = [
     MIDDLE, MIDDLE, MIDDLE, MIDDLE, MIDDLE, MIDDLE, MIDDLE,
     DARK, WHITE, DEEP,
 ];
+
+/// A leaf's size, its outline, and that of its paler part.
+const LEAF: Point = (20, 20);
+const LEAF_OUTLINE: [Point; 6] = [(0, 0), (9, 2), (16, 8), (19, 19), (8, 16), (2, 9)];
+const LEAF_PALE: [Point; 6] = [(2, 2), (9, 4), (14, 9), (17, 17), (9, 14), (4, 9)];
 
 /// Directions of draw codes, to which the steps are added; up lowers Y.
 const RIGHT: u8 = 0x10;
@@ -44,6 +50,7 @@ pub fn weave(loom: &mut Loom) {
     loom.map(SOURCE, 0, SIZE, BITS_8);
     ground(loom);
     border(loom);
+    leaves(loom);
     for axis in [40, 80, 120] {
         let row = if axis == 80 { 28 } else { 40 };
         rose(loom, (axis, row));
@@ -85,6 +92,27 @@ fn frame(loom: &mut Loom, inset: i32, colour: u32) {
     loom.line(CLOTH, (inset, inset), (right, inset), colour);
     loom.line(CLOTH, (inset, inset), (inset, bottom), colour);
     loom.line(CLOTH, (right, inset), (right, bottom), colour);
+}
+
+/// A leaf in each upper corner, outlined and filled, with a vein along it.
+fn leaves(loom: &mut Loom) {
+    loom.map(BITMAP, LEAF_AT, LEAF, BITS_1);
+    let at = (15, 15);
+    for (outline, colour) in [(LEAF_OUTLINE, DARK), (LEAF_PALE, MIDDLE)] {
+        filled(loom, &outline, at, colour);
+        // What is filled ends before its closing pixels, so the mirror stands at the map's right edge.
+        let mirrored = outline.map(|(x, y)| (LEAF.0 - x, y));
+        filled(loom, &mirrored, (SIZE.0 - LEAF.0 - at.0, at.1), colour);
+    }
+    let vein = [UP_LEFT + 15];
+    mirrored(loom, (32, 32), WHITE, &vein);
+}
+
+/// The inside of an outline, in one colour.
+fn filled(loom: &mut Loom, outline: &[Point], at: Point, colour: u32) {
+    loom.block(BITMAP, (0, 0), LEAF, 0);
+    loom.outline(outline);
+    loom.fill(at, LEAF, colour);
 }
 
 /// Four petals around a heart.

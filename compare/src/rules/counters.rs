@@ -1,6 +1,6 @@
 //! The rules on bytes 10 to 14 and on the codes, each broken by itself.
 
-use super::{draws, from, of_bytes, of_record, Rule};
+use super::{from, of_bytes, of_record, Rule};
 use model::codes::{self, Code};
 use model::random::Random;
 use model::{Coprocessor, Drawing};
@@ -15,8 +15,9 @@ pub fn rules() -> Vec<Rule> {
             image[10 + random.below(5) as usize] = from(random, 1, 255) as u8;
         }),
         of_record("a line's positions", is_line, |random, state| {
-            let done = after(random, state.registers.dimension_1);
-            state.drawing = Drawing::Line { done };
+            if let Drawing::Line { done, .. } = &mut state.drawing {
+                *done = after(random, state.registers.dimension_1);
+            }
         }),
         of_record("a code's positions", is_codes, |random, state| {
             if let Drawing::Codes { count, code, .. } = state.drawing {
@@ -30,16 +31,15 @@ pub fn rules() -> Vec<Rule> {
                 state.drawing = codes_at(count, code);
             }
         }),
-        of_record("a row's positions", is_block, |random, state| {
-            if let Drawing::Block { row, .. } = state.drawing {
-                let column = after(random, state.registers.dimension_1);
-                state.drawing = Drawing::Block { column, row };
+        of_record("a row's positions", has_rows, |random, state| {
+            if let Drawing::Block { column, .. } | Drawing::Fill { column, .. } = &mut state.drawing
+            {
+                *column = after(random, state.registers.dimension_1);
             }
         }),
-        of_record("rows done", is_block, |random, state| {
-            if let Drawing::Block { column, .. } = state.drawing {
-                let row = after(random, state.registers.dimension_2);
-                state.drawing = Drawing::Block { column, row };
+        of_record("rows done", has_rows, |random, state| {
+            if let Drawing::Block { row, .. } | Drawing::Fill { row, .. } = &mut state.drawing {
+                *row = after(random, state.registers.dimension_2);
             }
         }),
         of_bytes("a line's rows", is_line, |random, image| {
@@ -48,7 +48,7 @@ pub fn rules() -> Vec<Rule> {
         of_bytes("a line's codes", is_line, |random, image| {
             image[14] = from(random, 1, 255) as u8;
         }),
-        of_bytes("a block's codes", is_block, |random, image| {
+        of_bytes("a block's codes", has_rows, |random, image| {
             image[14] = from(random, 1, 255) as u8;
         }),
         of_record("codes in the write", has_no_stop, |random, state| {
@@ -84,12 +84,13 @@ fn is_line(state: &Coprocessor) -> bool {
     matches!(state.drawing, Drawing::Line { .. })
 }
 
-fn is_block(state: &Coprocessor) -> bool {
-    matches!(state.drawing, Drawing::Block { .. })
+/// Whether a block is drawn or filled.
+fn has_rows(state: &Coprocessor) -> bool {
+    matches!(state.drawing, Drawing::Block { .. } | Drawing::Fill { .. })
 }
 
 fn is_codes(state: &Coprocessor) -> bool {
-    draws(state) && !is_line(state) && !is_block(state)
+    matches!(state.drawing, Drawing::Codes { .. })
 }
 
 /// Whether codes are drawn and no byte of the direction steps is a stop.

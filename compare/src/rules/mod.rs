@@ -1,5 +1,6 @@
 //! The rules of the state image, each with a way to break it by itself (01, State image).
 
+mod bits;
 mod counters;
 mod maps;
 mod pointers;
@@ -9,7 +10,7 @@ mod starts;
 use model::coprocessor::SIZE_LIMIT;
 use model::image;
 use model::random::Random;
-use model::{Coprocessor, Drawing};
+use model::Coprocessor;
 
 type Fits = Box<dyn Fn(&Coprocessor) -> bool>;
 type Breaks = Box<dyn Fn(&mut Random, &Coprocessor) -> Vec<u8>>;
@@ -19,8 +20,9 @@ pub struct Rule {
     /// The rules that it is listed with.
     pub group: &'static str,
     pub name: String,
-    /// How often it was broken by itself.
+    /// How often it was broken by itself, and how often so in an image of state 3.
     pub times: u64,
+    pub times_inside: u64,
     /// Whether it can be broken in this state while every other rule holds.
     pub fits: Fits,
     /// The image of a state that fits, with this rule broken.
@@ -33,6 +35,7 @@ pub fn all() -> Vec<Rule> {
         ("frame", frame()),
         ("reductions", reductions::rules()),
         ("counters", counters::rules()),
+        ("state 3", bits::rules()),
         ("operations", starts::rules()),
         ("maps", maps::rules()),
         ("pointers", pointers::rules()),
@@ -65,7 +68,7 @@ fn frame() -> Vec<Rule> {
             state.size = from(random, SIZE_LIMIT + 1, u32::MAX);
         }),
         of_bytes("state", has_zero_counters, |random, image| {
-            image[9] = from(random, 3, 255) as u8;
+            image[9] = from(random, 4, 255) as u8;
         }),
     ]
 }
@@ -80,6 +83,7 @@ fn rule(
         group: "",
         name,
         times: 0,
+        times_inside: 0,
         fits: Box::new(fits),
         breaks: Box::new(breaks),
     }
@@ -125,12 +129,9 @@ fn draws(state: &Coprocessor) -> bool {
     state.drawing.is_unfinished()
 }
 
-/// Whether bytes 10 to 14 are zero, as they are for every state that is not 1.
+/// Whether bytes 10 to 14 are zero, as they are for every state that is not of a drawing.
 fn has_zero_counters(state: &Coprocessor) -> bool {
-    matches!(
-        state.drawing,
-        Drawing::Nothing { .. } | Drawing::Line { done: 0 } | Drawing::Block { column: 0, row: 0 }
-    )
+    image::of(state)[10..15] == [0; 5]
 }
 
 /// A number from `first` to `last`, most often one of these two.

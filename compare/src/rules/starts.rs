@@ -1,11 +1,13 @@
 //! The start rules on the pixel operations and mixes of a drawing in hand, each broken by itself.
 
 use super::{draws, from, of_record, Rule};
-use model::operations::Kind;
 use model::random::Random;
-use model::Coprocessor;
+use model::{Coprocessor, Drawing};
 
 const NO_MAPS: [u32; 13] = [0, 4, 5, 6, 7, 8, 9, 10, 11, 12, 13, 14, 15];
+
+/// The octant bit of negative X.
+const LEFT: u32 = 0b100;
 
 /// A field of the pixel operations.
 struct Field {
@@ -17,12 +19,12 @@ struct Field {
     fits: fn(&Coprocessor) -> bool,
 }
 
-const FIELDS: [Field; 8] = [
+const FIELDS: [Field; 7] = [
     Field {
         name: "function",
         first_bit: 24,
         ones: 0xF,
-        refused: &[0, 1, 6, 7, 10, 11, 12, 13, 14, 15],
+        refused: &[0, 1, 6, 7, 11, 12, 13, 14, 15],
         fits: draws,
     },
     Field {
@@ -67,13 +69,6 @@ const FIELDS: [Field; 8] = [
         refused: &NO_MAPS,
         fits: draws_with_source,
     },
-    Field {
-        name: "drawing mode 11",
-        first_bit: 4,
-        ones: 0b11,
-        refused: &[0b11],
-        fits: draws_no_block,
-    },
 ];
 
 /// Refusals 4, 5 and 6.
@@ -86,6 +81,24 @@ pub fn rules() -> Vec<Rule> {
         })
     });
     let mut rules: Vec<Rule> = fields.collect();
+    rules.push(of_record("a fill to the left", is_fill, |_, state| {
+        state.registers.operations |= LEFT;
+    }));
+    rules.push(of_record(
+        "a fill without a pattern map",
+        is_fill,
+        |random, state| {
+            // Code 9 uses the source, of which nothing must be wrong.
+            let uses_source = state.registers.fields().uses_source();
+            let code = if uses_source && random.once_in(2) {
+                9
+            } else {
+                8
+            };
+            let operations = &mut state.registers.operations;
+            *operations = *operations & !(0xF << 12) | code << 12;
+        },
+    ));
     rules.push(of_record("foreground mix", draws, |random, state| {
         state.registers.foreground_mix = from(random, 0x16, 0xFF) as u8;
     }));
@@ -112,6 +125,6 @@ fn draws_with_source(state: &Coprocessor) -> bool {
     draws(state) && state.registers.fields().uses_source()
 }
 
-fn draws_no_block(state: &Coprocessor) -> bool {
-    draws(state) && state.registers.fields().kind() != Some(Kind::Block)
+fn is_fill(state: &Coprocessor) -> bool {
+    matches!(state.drawing, Drawing::Fill { .. })
 }

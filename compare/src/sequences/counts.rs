@@ -42,7 +42,8 @@ pub struct Counts {
     /// Runs that did positions, and those of them after which the memory was another.
     pub runs: [u64; 2],
     pub carried: u64,
-    functions: [u64; 6],
+    pub loaded_inside: u64,
+    functions: [u64; FUNCTIONS.len()],
     pixel_sizes: [u64; 4],
     drawing_modes: [u64; 4],
     mask_modes: [u64; 3],
@@ -95,14 +96,23 @@ impl fmt::Display for Counts {
         let calls: u64 = self.calls.iter().flatten().sum();
         write!(
             lines,
-            "sequences: {}, of {calls} calls; {} positions in {} runs, of which {} changed memory; {} loads into another coprocessor",
-            self.sequences, self.positions, self.runs[0], self.runs[1], self.carried
+            "sequences: {}, of {calls} calls; {} positions in {} runs, of which {} changed memory",
+            self.sequences, self.positions, self.runs[0], self.runs[1]
+        )?;
+        write!(
+            lines,
+            "\n  {} loads into another coprocessor; {} of all loads in state 3",
+            self.carried, self.loaded_inside
         )?;
         for ((name, _), times) in CALLS.iter().zip(&self.calls) {
             write!(lines, "{}", report::met(name, &NUMBERS, times))?;
         }
         let starts: [(&str, &[&str], &[u64]); 4] = [
-            ("function", &["2", "3", "4", "5", "8", "9"], &self.functions),
+            (
+                "function",
+                &["2", "3", "4", "5", "8", "9", "10"],
+                &self.functions,
+            ),
             ("bits of a pixel", &["1", "2", "4", "8"], &self.pixel_sizes),
             (
                 "drawing mode",

@@ -104,6 +104,7 @@ impl<'a> Sequence<'a> {
             println!("image {image:02X?}");
         }
         let refusal = self.pair.load(image, &mut self.memories)?;
+        self.counts.loaded_inside += u64::from(refusal == 0 && self.pair.is_inside());
         self.fit_memories();
         self.note(Call::Load, refusal, &[])
     }
@@ -115,6 +116,7 @@ impl<'a> Sequence<'a> {
             .others
             .carried(&mut self.random, &self.pair, memories)?;
         self.counts.carried += 1;
+        self.counts.loaded_inside += u64::from(self.pair.is_inside());
         self.note(Call::Load, 0, &[])
     }
 

@@ -107,7 +107,7 @@ fn bytes_alone(workload: &Workload) -> Option<(Duration, usize)> {
     let memory = black_box(&mut memory[..]);
     let begun = Instant::now();
     let bytes = match workload.beside {
-        Beside::Nothing => return None,
+        Beside::Nothing | Beside::Times(_) => return None,
         Beside::Set(bytes) => {
             memory[..bytes].fill(black_box(0x5A));
             bytes

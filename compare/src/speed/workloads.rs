@@ -14,13 +14,17 @@ pub struct Job {
     pub writes: Vec<Write>,
 }
 
-/// What stands beside a workload: how fast the bytes themselves are set or copied.
+/// What stands beside a workload: how fast the bytes themselves are set or copied, or how many times another workload's time it takes.
 #[derive(Clone, Copy)]
 pub enum Beside {
     Nothing,
     Set(usize),
     Copy(usize),
+    Times(&'static str),
 }
+
+const PATTERN: &str = "1-bit pattern to 8 bits, 512 by 512";
+const LINES: &str = "lines of 4096";
 
 /// Drawings on one memory.
 pub struct Workload {
@@ -38,8 +42,10 @@ pub fn all() -> Vec<Workload> {
         fill(),
         copy(),
         expansion(),
+        area_fill(),
         masked_xor(),
-        long_lines(),
+        long_lines(LINES, 0x0501_8000),
+        boundary_lines(),
         step_codes(),
         short_lines("lines of ten, run only", false),
         short_lines("lines of ten, with writes", true),
@@ -69,11 +75,24 @@ fn copy() -> Workload {
 
 /// A pattern of random bits picks foreground or background colour.
 fn expansion() -> Workload {
+    started(PATTERN, vec![by_pattern(0x0801_3000)])
+}
+
+/// The same pattern, of which each 1 turns inside to outside or back.
+fn area_fill() -> Workload {
+    Workload {
+        beside: Beside::Times(PATTERN),
+        ..started("area fill, 512 by 512", vec![by_pattern(0x0A01_3000)])
+    }
+}
+
+/// A block whose colour a pattern of random bits picks.
+fn by_pattern(operations: u32) -> Vec<Write> {
     let mut writes = map(1, 0, 512, 512, BITS_8);
     writes.extend(map(3, 0x8_0000, 512, 512, BITS_1));
     writes.extend(pixels(MIX_SOURCE, 0xE0, 0x1F));
-    writes.extend(block(512, 512, 0x0801_3000));
-    started("1-bit pattern to 8 bits, 512 by 512", vec![writes])
+    writes.extend(block(512, 512, operations));
+    writes
 }
 
 /// The mask shows discs, 64 pixels apart.
@@ -96,14 +115,22 @@ fn masked_xor() -> Workload {
 }
 
 /// Lines across the whole width, of different slopes.
-fn long_lines() -> Workload {
+fn long_lines(name: &'static str, operations: u32) -> Workload {
     let lines = (0..16).map(|number| {
         let mut writes = map(1, 0, 4096, 256, BITS_8);
         writes.extend(pixels(MIX_SOURCE, 0xC3, 0));
-        writes.extend(line((0, 0), (4095, number * 17)));
+        writes.extend(line((0, 0), (4095, number * 17), operations));
         writes
     });
-    started("lines of 4096", lines.collect())
+    started(name, lines.collect())
+}
+
+/// The same lines as area boundaries.
+fn boundary_lines() -> Workload {
+    Workload {
+        beside: Beside::Times(LINES),
+        ..long_lines("mode 11 lines of 4096", 0x0501_8030)
+    }
 }
 
 /// Four codes of 16 positions in each drawing.
@@ -127,7 +154,7 @@ fn short_lines(name: &'static str, with_writes: bool) -> Workload {
     prepared.extend(pixels(MIX_SOURCE, 0x77, 0));
     let mut any_line = || {
         let (x, y) = (random.between(10, 1000), random.between(10, 1000));
-        line((x, y), (x + 9, y + random.between(0, 9)))
+        line((x, y), (x + 9, y + random.between(0, 9)), 0x0501_8000)
     };
     let lines: Vec<Vec<Write>> = (0..256).map(|_| any_line()).collect();
     if !with_writes {

@@ -41,7 +41,7 @@ pub fn block(width: u32, height: u32, operations: u32) -> Vec<Write> {
 }
 
 /// The seven writes of a line that goes right and down, less than it goes right.
-pub fn line(from: (i32, i32), to: (i32, i32)) -> Vec<Write> {
+pub fn line(from: (i32, i32), to: (i32, i32), operations: u32) -> Vec<Write> {
     let (right, down) = (to.0 - from.0, to.1 - from.1);
     vec![
         (0x20, 4, (2 * down - right) as u32),
@@ -50,6 +50,6 @@ pub fn line(from: (i32, i32), to: (i32, i32)) -> Vec<Write> {
         (0x58, 4, 0x80 + down as u32),
         (0x60, 2, right as u32),
         (0x78, 4, (from.1 << 16 | from.0) as u32),
-        (0x7C, 4, 0x0501_8000),
+        (0x7C, 4, operations),
     ]
 }

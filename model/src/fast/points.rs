@@ -49,6 +49,16 @@ impl Point {
         (signed(self.x), signed(self.y))
     }
 
+    /// The destination's column, which is 0 where X is negative.
+    #[inline(always)]
+    pub(super) fn column(self) -> u32 {
+        if self.x < FIRST_NEGATIVE {
+            self.x
+        } else {
+            0
+        }
+    }
+
     /// The pointer moved by at most one; past an edge of the map it comes in at the other.
     #[inline(always)]
     pub(super) fn moved(self, map: &Surface, x: i32, y: i32) -> Point {

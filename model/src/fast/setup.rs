@@ -28,12 +28,14 @@ pub(super) struct Compare {
     count: u32,
 }
 
-/// Which position of a line or code is nulled.
+/// Which positions of a line or code are nulled.
 #[derive(Clone, Copy)]
 pub(super) enum Null {
     Nothing,
     First,
     Last,
+    /// All but those at which the area boundary leaves a row downwards or has come into it upwards.
+    Boundary,
 }
 
 /// The set-up of a drawing in hand.
@@ -164,9 +166,10 @@ fn inks(registers: &Registers, fields: &Operations, ones: u32) -> [Ink; 2] {
 
 fn null(fields: &Operations) -> Null {
     match (fields.kind(), fields.drawing_mode) {
-        (Some(Kind::Block), _) => Null::Nothing,
+        (Some(Kind::Block | Kind::Fill), _) => Null::Nothing,
         (_, operations::FIRST_NULL) => Null::First,
         (_, operations::LAST_NULL) => Null::Last,
+        (_, operations::AREA_BOUNDARY) => Null::Boundary,
         _ => Null::Nothing,
     }
 }

@@ -51,9 +51,23 @@ fn is_reduced(registers: &Registers) -> bool {
 fn goes_on(registers: &Registers, size: u32, drawing: &Drawing) -> bool {
     let fields = registers.fields();
     let has_position = match (fields.kind(), *drawing) {
-        (Some(Kind::Line), Drawing::Line { done }) => done <= registers.dimension_1,
+        (Some(Kind::Line), Drawing::Line { done, rose }) => {
+            let may_look_back = done > 0 && fields.drawing_mode == operations::AREA_BOUNDARY;
+            done <= registers.dimension_1 && (!rose || may_look_back)
+        }
         (Some(Kind::Block), Drawing::Block { column, row }) => {
             column <= registers.dimension_1 && row <= registers.dimension_2
+        }
+        (
+            Some(Kind::Fill),
+            Drawing::Fill {
+                column,
+                row,
+                inside,
+            },
+        ) => {
+            let is_left = column <= registers.dimension_1 && row <= registers.dimension_2;
+            is_left && (!inside || column > 0)
         }
         (Some(Kind::Codes), Drawing::Codes { count, code, done }) => {
             has_code(registers.steps, count, code, done)
@@ -84,13 +98,14 @@ fn starts(registers: &Registers, fields: &Operations, size: u32) -> bool {
     let is_source = |field| matches!(field, operations::COLOUR | operations::SOURCE_MAP);
     let fits = |map: &Map| map.format <= 3 && map.end() <= u64::from(size);
     let is_bitmap = |map: &Map| map.format == 0 && fits(map);
+    let is_fill = fields.kind() == Some(Kind::Fill);
 
     is_source(fields.foreground_source)
         && is_source(fields.background_source)
         && operations::is_general_map(fields.destination)
-        && matches!(fields.pattern, 1..=3 | 8 | 9)
+        && (fields.uses_pattern() || !is_fill && matches!(fields.pattern, 8 | 9))
+        && (fields.octant & 0b100 == 0 || !is_fill)
         && fields.mask != operations::MASK_RESERVED
-        && (fields.kind() == Some(Kind::Block) || fields.drawing_mode != operations::AREA_BOUNDARY)
         && registers.foreground_mix.max(registers.background_mix) <= LAST_MIX
         && fits(destination)
         && (!fields.uses_source() || operations::is_general_map(fields.source) && fits(source))

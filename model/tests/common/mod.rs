@@ -11,6 +11,18 @@ pub const IDLE: Drawing = Drawing::Nothing { stopped: false };
 /// Idle after a stop.
 pub const STOPPED: Drawing = Drawing::Nothing { stopped: true };
 
+/// The first position of a fill.
+pub const FILL_BEGUN: Drawing = Drawing::Fill {
+    column: 0,
+    row: 0,
+    inside: false,
+};
+
+/// A line after so many positions, without the look-back bit.
+pub const fn line_at(done: u16) -> Drawing {
+    Drawing::Line { done, rose: false }
+}
+
 /// Map format of 1-bit pixels.
 pub const BITS_1: u32 = 0;
 /// Map format of 4-bit pixels.
@@ -184,6 +196,27 @@ impl Board {
     pub fn row(&self, index: usize, y: u32) -> Vec<u32> {
         let row_length = self.coprocessor.registers.maps[index].row_length();
         (0..row_length).map(|x| self.pixel(index, x, y)).collect()
+    }
+
+    /// Sets a map's pixels row by row, each a digit of a row's text.
+    pub fn paint(&mut self, index: usize, rows: &[&str]) {
+        let map = self.coprocessor.registers.maps[index];
+        for (y, row) in (0..).zip(rows) {
+            for (x, pixel) in (0..).zip(row.chars()) {
+                let value = pixel.to_digit(16).expect("a digit");
+                let (row_length, bits) = (map.row_length(), map.bits());
+                pixels::put(&mut self.memory, map.base, row_length, bits, x, y, value);
+            }
+        }
+    }
+
+    /// A map's pixels as rows of digits.
+    pub fn picture(&self, index: usize) -> Vec<String> {
+        let rows = self.coprocessor.registers.maps[index].rows();
+        let digit = |pixel| char::from_digit(pixel, 16).expect("a digit");
+        (0..rows)
+            .map(|y| self.row(index, y).into_iter().map(digit).collect())
+            .collect()
     }
 
     /// The image of the state, which is accepted.

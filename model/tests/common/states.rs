@@ -77,3 +77,26 @@ pub fn unfinished() -> Board {
     board.run(1);
     board
 }
+
+/// An area boundary of 5 positions that goes up, with 1 done and a step in Y after it.
+pub fn boundary() -> Board {
+    let mut board = Board::square(4);
+    board.terms(0, 2, -2);
+    board.dimensions(4, 0);
+    board.destination(0, 3);
+    board.operations(0x0501_8032);
+    board.run(1);
+    board
+}
+
+/// A fill of 4 by 3 with 6 done, which is inside.
+pub fn fill() -> Board {
+    let mut board = Board::new(18);
+    board.map(1, 0, 4, 4, BITS_8);
+    board.map(3, 16, 4, 3, BITS_1);
+    board.memory[16] = 0b0010_0000;
+    board.dimensions(3, 2);
+    board.operations(0x0A01_3000);
+    board.run(6);
+    board
+}
