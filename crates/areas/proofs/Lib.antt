@@ -1,6 +1,7 @@
 pub mod Rows
 pub mod Reached
 pub mod Boundary
+pub mod DrawnByRows
 pub mod Parities
 pub mod FillRows
 pub mod Filled

@@ -1,13 +1,12 @@
 -- The parity of an outline: each of its strokes is set up to turn pixels, so all of them together turn a pixel as often as they cross there.
-use mathlib.Core.Path.{_≡_, refl, sym, ap, ap₂, subst, _∙_}
-use mathlib.Core.Bool.{Bool, true, false, _||_}
+use mathlib.Core.Path.{_≡_, sym, ap, ap₂, subst, _∙_}
+use mathlib.Core.Bool.{true}
 use mathlib.Core.List.{List}
 use Prim.Native.Nat.{ℕ, _+_, _%_, _≤_, _<_}
 use native.Mathlib.Omega.{arith}
-use lib.Dec.{eqb}
 use lib.ListN.{length}
-use borrow.Author.Tests.{leb-true, eqb-true, eq-eqb}
-use Rattle.numbers.proofs.Choices.{choose-true, choose-false, and-left, and-right}
+use borrow.Author.Tests.{leb-true, eq-eqb}
+use Rattle.numbers.proofs.Choices.{choose-true, choose-false}
 use Rattle.pixels.specs.declared.Map.{Map}
 use Rattle.pixels.specs.Maps.{bitsOf, placeOf, neededOf}
 use Rattle.pixels.specs.Pixels.{pixelAt}
@@ -15,36 +14,21 @@ use Rattle.pixels.proofs.Maps.{place-lt}
 use Rattle.pixels.proofs.Pixels.{pixel-lt}
 use Rattle.parts.specs.Drawings.{unfinished}
 use Rattle.parts.specs.Refusals.{isAccepted}
-use Rattle.parts.specs.Reduced.{spotReduced}
-use Rattle.parts.proofs.ReducedLaws.{destination-circle-fixed}
 use Rattle.rules.specs.Operations.{functionOf, isMap, isFill, isBlock, modeOf, usesPattern}
 use Rattle.rules.specs.Maps.{endHolds}
 use Rattle.moves.specs.Decoded.{courseOf, flowOf, edgeOf}
-use Rattle.moves.proofs.CircledLaws.{OnCircle}
 use Rattle.runs.specs.Runs.{begun}
 use Rattle.runs.proofs.RunLaws.{length-after}
 use Rattle.coprocessor.specs.declared.Coprocessor.{Coprocessor}
-use Rattle.coprocessor.specs.Valid.{pointersReduced, reducedOf, validOf}
 use Rattle.coprocessor.specs.Runs.{setupOf, penOf, ranOf, runRefusal, runMemory}
 use Rattle.coprocessor.proofs.SafeLaws.{valid-safe}
 use Rattle.areas.specs.Crossings.{crossings}
 use Rattle.areas.specs.Outlines.{Stroke, Strokes, none, more, wholeOf, outlined, crossingsOf}
+use Rattle.areas.proofs.DrawnByRows.{writes, destination-on}
 use Rattle.areas.proofs.Toggles.{Toggles}
 use Rattle.areas.proofs.Strokes.{toggled-after}
 
 -- ---- how a stroke is set up
-
--- what is no code and line of a write form is neither of a read form, nor a block
-record Writes (function : ℕ) : Type 0 where
-  read : (eqb function 2 || eqb function 3) ≡ false
-  block : (eqb function 8 || eqb function 9 || eqb function 10) ≡ false
-
-writes : (function : ℕ) → (eqb function 4 || eqb function 5) ≡ true → Writes function
-writes function e = by (eqb function 4) refl e
-  where
-    by : (four : Bool) → eqb function 4 ≡ four → (four || eqb function 5) ≡ true → Writes function
-    by true f e = let same = eqb-true function 4 f in record { read = rw same; block = rw same }
-    by false f e = let same = eqb-true function 5 e in record { read = rw same; block = rw same }
 
 module _ (map : Map) (size : ℕ) (c : Coprocessor) (stroke : Stroke map size c) where
   stroke-toggles : bitsOf (map .format) ≡ 1 → Toggles (setupOf c)
@@ -68,11 +52,7 @@ module _ (map : Map) (size : ℕ) (c : Coprocessor) (stroke : Stroke map size c)
         plane = stroke .plane;
       }
 
-  -- a valid record's destination is on its circle, and its map ends within the memory
-  stroke-on : OnCircle (c .destination .y)
-  unfolding validOf reducedOf pointersReduced spotReduced
-  stroke-on = let v = stroke .valid in destination-circle-fixed (c .destination .y) (search (v, and-left, and-right))
-
+  -- its map ends within the memory
   stroke-held : unfinished (c .drawing) ≡ true → (x y : ℕ) → x ≤ map .width → y ≤ map .height → placeOf map x y < size
   unfolding setupOf endHolds
   stroke-held going x y across down =
@@ -103,7 +83,7 @@ module _ (map : Map) (size : ℕ) (c : Coprocessor) (stroke : Stroke map size c)
       (λ (m : Map).
       x ≤ m .width → y ≤ m .height → (unfinished (c .drawing) ≡ true → placeOf m x y < length memory)
       → pixelAt (ranOf c memory n .memory) m x y ≡ (pixelAt memory m x y + crossings (setupOf c) (penOf c) x y n) % 2) (stroke .destination)
-      (λ a d h. toggled-after (setupOf c) (stroke-toggles one) (penOf c) (stroke .start) stroke-on memory x y a d h n)
+      (λ a d h. toggled-after (setupOf c) (stroke-toggles one) (penOf c) (stroke .start) (destination-on c (stroke .valid)) memory x y a d h n)
       across down (λ going. rw same (stroke-held going x y across down))
 
 -- ---- all strokes

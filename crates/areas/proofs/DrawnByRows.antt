@@ -1,0 +1,49 @@
+-- Which positions a record's outline draws: the law of a boundary's rows, for the set-up that the registers make.
+use mathlib.Core.Path.{_≡_, refl, _∙_}
+use mathlib.Core.Bool.{Bool, true, false, not, _||_}
+use Prim.Native.Nat.{ℕ}
+use lib.Dec.{eqb}
+use borrow.Author.Tests.{eqb-true, eq-eqb}
+use Rattle.numbers.proofs.Choices.{choose-false, and-left, and-right}
+use Rattle.parts.specs.Drawings.{unfinished}
+use Rattle.parts.specs.Reduced.{spotReduced}
+use Rattle.parts.proofs.ReducedLaws.{destination-circle-fixed}
+use Rattle.rules.specs.Operations.{functionOf, drawingMode, isFill, isBlock, modeOf}
+use Rattle.moves.specs.Decoded.{courseOf, flowOf}
+use Rattle.moves.proofs.CircledLaws.{OnCircle}
+use Rattle.position.specs.Places.{isNulled}
+use Rattle.coprocessor.specs.declared.Coprocessor.{Coprocessor}
+use Rattle.coprocessor.specs.Valid.{pointersReduced, reducedOf, validOf}
+use Rattle.coprocessor.specs.Runs.{setupOf, penOf}
+use Rattle.areas.specs.Crossings.{penAfter, crosses}
+use Rattle.areas.specs.Outlines.{atStart}
+use Rattle.areas.proofs.Boundary.{boundary-drawn}
+
+-- what is a line or codes of a write form is neither of a read form, nor a block
+pub record Writes (function : ℕ) : Type 0 where
+  pub read : (eqb function 2 || eqb function 3) ≡ false
+  pub block : (eqb function 8 || eqb function 9 || eqb function 10) ≡ false
+
+pub writes : (function : ℕ) → (eqb function 4 || eqb function 5) ≡ true → Writes function
+writes function e = by (eqb function 4) refl e
+  where
+    by : (four : Bool) → eqb function 4 ≡ four → (four || eqb function 5) ≡ true → Writes function
+    by true f e = let same = eqb-true function 4 f in record { read = rw same; block = rw same }
+    by false f e = let same = eqb-true function 5 e in record { read = rw same; block = rw same }
+
+-- a valid record's destination is on its circle
+pub destination-on : (c : Coprocessor) → validOf c ≡ true → OnCircle (c .destination .y)
+unfolding validOf reducedOf pointersReduced spotReduced
+destination-on c v = destination-circle-fixed (c .destination .y) (search (v, and-left, and-right))
+
+-- 02, 102: a mode 11 line or code of a write form draws a position exactly if the one after it lies in the row below, or the one before it lay there
+pub drawn-by-rows : (c : Coprocessor) → validOf c ≡ true → (eqb (functionOf (c .operations)) 4 || eqb (functionOf (c .operations)) 5) ≡ true
+    → drawingMode (c .operations) ≡ 3
+    → atStart (c .drawing) ≡ true
+    → (n : ℕ) → unfinished (penAfter (setupOf c) n (penOf c) .drawing) ≡ true
+    → isNulled (setupOf c) (penAfter (setupOf c) n (penOf c)) ≡ not (crosses (setupOf c) (penOf c) n)
+unfolding setupOf penOf flowOf courseOf modeOf isBlock isFill
+drawn-by-rows c valid function mode start =
+    let w = writes (functionOf (c .operations)) function in
+    let eleven : modeOf (c .operations) ≡ 3 = choose-false _ _ (w .block) ∙ mode in
+    boundary-drawn (setupOf c) (penOf c) eleven (eq-eqb _ 3 eleven) (w .read) start (destination-on c valid)
