@@ -69,23 +69,43 @@ fn all(asked: &Arguments) -> Result<(), String> {
         "seed {seed}: {} images, {} drawings, {} outlines, {} sequences",
         asked.images, asked.drawings, asked.outlines, asked.sequences
     );
+    std::thread::scope(|scope| {
+        // The sequences, which take longest, go on beside the other parts, and are told after them.
+        let beside = scope.spawn(|| panics::caught(|| sequences(asked, &others)));
+        parts(asked, random, &others)?;
+        let met = beside.join().expect("its panics are caught")?;
+        print!("{met}");
+        Ok(())
+    })
+}
+
+/// Compares the sequences, and has what was met as text, empty where none is asked for.
+fn sequences(asked: &Arguments, others: &Others) -> Result<String, String> {
+    match asked.sequences {
+        0 => Ok(String::new()),
+        count => sequences::compare(asked.seed, count, others).map(|met| format!("{met}\n")),
+    }
+}
+
+/// Compares all parts but the sequences, one after another, and tells what each met.
+fn parts(
+    asked: &Arguments,
+    random: impl Fn(u64) -> Random,
+    others: &Others,
+) -> Result<(), String> {
     if asked.leaves > 0 {
         compare_leaves(&mut random(2), asked.leaves)?;
     }
     if asked.images > 0 {
-        let met = images::compare(&mut random(3), asked.images, &others)?;
+        let met = images::compare(&mut random(3), asked.images, others)?;
         println!("{met}");
     }
     if asked.drawings > 0 {
-        let met = drawings::compare(&mut random(4), random(5), asked.drawings, &others)?;
+        let met = drawings::compare(&mut random(4), random(5), asked.drawings, others)?;
         println!("{met}");
     }
     if asked.outlines > 0 {
         let met = outlines::compare(&mut random(6), asked.outlines)?;
-        println!("{met}");
-    }
-    if asked.sequences > 0 {
-        let met = sequences::compare(seed, asked.sequences, &others)?;
         println!("{met}");
     }
     Ok(())

@@ -246,8 +246,8 @@ unfoldable pub codeZero : Play
 codeZero = record { bytes = zeros 1; calls = row 0 3 0xAA ++ (refused 0x7C 4 0x05008000 5 ∷ read 0x7C 4 0 ∷ []) }
 
 -- 01, Numbers a call answers with: the mask map counts as used only when enabled, so in mode 01 its format is not looked at
-unfoldable pub boundaryMode : Play
-boundaryMode =
+unfoldable pub maskBoundary : Play
+maskBoundary =
     record { bytes = zeros 1; calls = mapped 0 0 0 0 3 ++ row 0 3 0xAA ++ (refused 0x7C 4 0x05018080 7 ∷ write 0x7C 4 0x05018040 ∷ run 9 1 ∷ []) }
 
 -- 01, Registers: a first code 00 ends at once with no position, flagged as stopped
@@ -320,7 +320,7 @@ mistakes =
     ∷ lowestNumber
     ∷ unlistedByte
     ∷ codeZero
-    ∷ boundaryMode
+    ∷ maskBoundary
     ∷ firstCodeStops
     ∷ pointersTurned
     ∷ sizes
