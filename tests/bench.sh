@@ -87,6 +87,22 @@ case_of 'refusal 8' 'w 12 1 1\nw 14 4 1\nw 18 4 70007\nw 1C 1 3\nw 7C 4 05018000
 case_of 'refusal 2, until the drawing is done' 'w 12 1 1\nw 4A 1 0\nw 7C 4 05018000\nw 12 1 0\nr 0\nw 12 1 0\nr 7\nw 12 1 0\n' \
     'ok 0\nok 0\nok 0\nno 2\nok 0\nno 2\nok 1\nok 0\n'
 
+# 02, 102: a leaf outlined by four codes in mode 11 and filled; a fill to the left is refused
+{
+    printf 'w 12 1 2\nw 18 4 70007\nw 12 1 1\nw 14 4 8\nw 18 4 60007\nw 1C 1 3\nw 48 1 6\nw 4A 1 4\nw 50 4 FF\nw 58 4 1\nw 78 4 3\n'
+    printf 'w 7C 4 04028030\nw 2C 4 3373B3F3\nr 99\n'
+    printf 'w 48 1 3\nw 49 1 5\nw 58 4 AA\nw 60 4 60007\nw 78 4 0\nw 7C 4 0A012004\nw 7C 4 0A012000\nr 10\nr 99\n'
+} >"$work/in"
+{
+    for _ in 1 2 3 4 5 6 7 8 9 10 11 12 13; do echo 'ok 0'; done
+    printf 'ok 16\nok 0\nok 0\nok 0\nok 0\nok 0\nno 5\nok 0\nok 10\nok 46\n'
+    echo '00 14 22 41 22 14 00 00 00 00 00 00 00 00 00 00'
+    echo '00 00 AA AA 00 00 00 00 00 AA AA AA AA 00 00 00'
+    echo 'AA AA AA AA AA AA 00 00 00 AA AA AA AA 00 00 00'
+    echo '00 00 AA AA 00 00 00 00 00 00 00 00 00 00 00 00'
+} >"$work/expected"
+holds 'a leaf, outlined and filled'
+
 { row 256; echo; row 257; echo; row 5000; echo; row 100000; echo; row 3; } >"$work/in"
 { printf 'ok 0\nline 2: not a call\nline 3: not a call\nline 4: not a call\nok 0\n' && memory; } >"$work/expected"
 holds 'lines as long as the buffer, and longer'
