@@ -18,7 +18,7 @@ use Rattle.moves.specs.Steps.{lineStep, codeStep, goesUp}
 use Rattle.moves.specs.Moves.{destinationBy, penStepped, penWith, penGone, lineMoved, codesMoved, movedBy, moved}
 use Rattle.moves.proofs.CircledLaws.{OnCircle, circled-on}
 use Rattle.moves.proofs.Counters.{drawing-moved}
-use Rattle.position.specs.Places.{isFirst, isLast, isNulled}
+use Rattle.places.specs.Places.{isFirst, isLast, isNulled}
 use Rattle.areas.specs.Crossings.{penAfter, rowAfter, below, samePlace, crosses}
 use Rattle.areas.specs.Outlines.{atStart}
 use Rattle.areas.proofs.Rows.{goesDown, down-seen, up-seen}

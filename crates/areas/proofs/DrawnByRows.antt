@@ -11,7 +11,7 @@ use Rattle.parts.proofs.ReducedLaws.{destination-circle-fixed}
 use Rattle.rules.specs.Operations.{functionOf, drawingMode, isFill, isBlock, modeOf}
 use Rattle.moves.specs.Decoded.{courseOf, flowOf}
 use Rattle.moves.proofs.CircledLaws.{OnCircle}
-use Rattle.position.specs.Places.{isNulled}
+use Rattle.places.specs.Places.{isNulled}
 use Rattle.coprocessor.specs.declared.Coprocessor.{Coprocessor}
 use Rattle.coprocessor.specs.Valid.{pointersReduced, reducedOf, validOf}
 use Rattle.coprocessor.specs.Runs.{setupOf, penOf}

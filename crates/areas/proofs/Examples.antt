@@ -28,7 +28,7 @@ use Rattle.moves.specs.Turns.{opposite, turnedBy, circledBy, pointStepped, spot
 use Rattle.moves.specs.Steps.{lineStep, codeStep, movesRow, goesUp}
 use Rattle.moves.specs.Moves.{sourceBy, destinationBy, penStepped, penWith, penGone, lineError, rises, lineMoved, codePassed, codesMoved}
 use Rattle.moves.specs.Moves.{columnPassed, rowPoint, rowSpot, rowPassed, blockMoved, movedBy, moved}
-use Rattle.position.specs.Places.{isWithin, columnOf, placeX, onMap, inMask, isMove, isFirst, isLast, ofRun, onBoundary, isNulled}
+use Rattle.places.specs.Places.{isWithin, columnOf, placeX, onMap, inMask, isMove, isFirst, isLast, ofRun, onBoundary, isNulled}
 use Rattle.position.specs.Fates.{destinationPixel, onZero, isCompared, fateOf}
 use Rattle.position.specs.Drawn.{sourcePixel, isOne, insideAt, crossed, isForeground, inkOf, picked, mixedPixel, drawnBy, drawn}
 use Rattle.runs.specs.Runs.{begun, positioned, stepped, after}

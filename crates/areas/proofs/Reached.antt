@@ -21,7 +21,7 @@ use Rattle.moves.specs.declared.Setup.{Setup}
 use Rattle.moves.specs.Steps.{lineStep, codeStep, movesRow, goesUp}
 use Rattle.moves.specs.Moves.{rises, codePassed}
 use Rattle.moves.proofs.Counters.{drawingAfter}
-use Rattle.position.specs.Places.{isFirst, isLast, ofRun, onBoundary}
+use Rattle.places.specs.Places.{isFirst, isLast, ofRun, onBoundary}
 use Rattle.areas.specs.Outlines.{atStart}
 use Rattle.areas.proofs.Rows.{goesDown}
 

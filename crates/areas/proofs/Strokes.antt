@@ -18,7 +18,7 @@ use Rattle.moves.specs.declared.Setup.{Setup}
 use Rattle.moves.specs.declared.Pen.{Pen}
 use Rattle.moves.specs.Moves.{penWith, movedBy, moved}
 use Rattle.moves.proofs.CircledLaws.{OnCircle}
-use Rattle.position.specs.Places.{columnOf, isMove}
+use Rattle.places.specs.Places.{columnOf, isMove}
 use Rattle.position.specs.Drawn.{insideAt, crossed, drawn}
 use Rattle.runs.specs.Runs.{Run, begun, positioned, after}
 use Rattle.runs.proofs.RunLaws.{by-stepped, length-after}

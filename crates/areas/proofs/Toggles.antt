@@ -22,7 +22,7 @@ use Rattle.mixes.proofs.Binary.{last-cases}
 use Rattle.parts.specs.declared.shapes.Ink.{Ink}
 use Rattle.moves.specs.declared.Setup.{Setup}
 use Rattle.moves.specs.declared.Pen.{Pen}
-use Rattle.position.specs.Places.{isWithin, columnOf, placeX, onMap, inMask, isMove, isNulled}
+use Rattle.places.specs.Places.{isWithin, columnOf, placeX, onMap, inMask, isMove, isNulled}
 use Rattle.position.specs.Fates.{destinationPixel, onZero, isCompared}
 use Rattle.position.specs.Drawn.{isForeground, inkOf, picked, mixedPixel, drawn}
 use Rattle.position.specs.Inner.{isLeftOut, writtenOf}

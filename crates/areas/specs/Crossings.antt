@@ -10,7 +10,7 @@ use Rattle.moves.specs.declared.Setup.{Setup}
 use Rattle.moves.specs.declared.Pen.{Pen}
 use Rattle.moves.specs.Turns.{circledBy}
 use Rattle.moves.specs.Moves.{moved}
-use Rattle.position.specs.Places.{columnOf, isMove}
+use Rattle.places.specs.Places.{columnOf, isMove}
 
 -- 01, The functions: the pen of a line or codes after n positions
 unfoldable pub penAfter : Setup → ℕ → Pen → Pen

@@ -23,7 +23,7 @@ use Rattle.moves.specs.Steps.{lineStep, codeStep, movesRow, goesUp}
 use Rattle.moves.specs.Turns.{opposite, turnedBy, circledBy, pointStepped, spotStepped}
 use Rattle.position.specs.Drawn.{sourcePixel, isForeground, inkOf, picked, mixedPixel, drawnBy, drawn, isOne, insideAt, crossed}
 use Rattle.position.specs.Fates.{destinationPixel, onZero, isCompared, fateOf}
-use Rattle.position.specs.Places.{isWithin, columnOf, onMap, maskX, maskY, inMask, isMove, isFirst, isLast, isNulled, placeX, ofRun, onBoundary}
+use Rattle.places.specs.Places.{isWithin, columnOf, onMap, maskX, maskY, inMask, isMove, isFirst, isLast, isNulled, placeX, ofRun, onBoundary}
 use Rattle.runs.specs.Runs.{begun, positioned, stepped, after}
 use Rattle.image.specs.Counters.{countersOf, drawingOf}
 use Rattle.image.specs.Fields.{laid, counterFields, headFields, mapFields, mapsFields, wordFields, bankFields, fieldsBy}

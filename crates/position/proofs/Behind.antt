@@ -13,7 +13,7 @@ use Rattle.parts.specs.Drawings.{insideOf, withInside}
 use Rattle.moves.specs.declared.Setup.{Setup}
 use Rattle.moves.specs.declared.Pen.{Pen}
 use Rattle.moves.specs.Moves.{penWith}
-use Rattle.position.specs.Places.{columnOf, onMap, maskX, maskY, inMask, isMove, isNulled}
+use Rattle.places.specs.Places.{columnOf, onMap, maskX, maskY, inMask, isMove, isNulled}
 use Rattle.position.specs.Fates.{destinationPixel, onZero, isCompared}
 use Rattle.position.specs.Drawn.{sourcePixel, isOne, insideAt, crossed, isForeground, inkOf, picked, mixedPixel, drawn}
 use Rattle.position.specs.Within.{Within}

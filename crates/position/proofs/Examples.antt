@@ -17,7 +17,7 @@ use Rattle.rules.specs.Starts.{codeAt}
 use Rattle.moves.specs.declared.Turn.the-variants.{Forth}
 use Rattle.moves.specs.declared.Setup.{Setup}
 use Rattle.moves.specs.declared.Pen.{Pen}
-use Rattle.position.specs.Places.{isWithin, columnOf, placeX, onMap, maskX, maskY, inMask, isMove, isFirst, isLast, isNulled}
+use Rattle.places.specs.Places.{isWithin, columnOf, placeX, onMap, maskX, maskY, inMask, isMove, isFirst, isLast, isNulled}
 use Rattle.position.specs.Fates.{destinationPixel, onZero, isCompared, fateOf}
 use Rattle.position.specs.Drawn.{sourcePixel, isOne, isForeground, inkOf, picked, mixedPixel, drawnBy, drawn}
 

@@ -20,12 +20,12 @@ use Rattle.moves.specs.declared.Setup.{Setup}
 use Rattle.moves.specs.declared.Pen.{Pen}
 use Rattle.moves.specs.Moves.{penWith, moved}
 use Rattle.moves.proofs.Kept.{source-in, pattern-in, pointers-moved}
-use Rattle.position.specs.Places.{isWithin, onMap, maskX, maskY, inMask, isMove, isNulled}
+use Rattle.places.specs.Places.{isWithin, onMap, maskX, maskY, inMask, isMove, isNulled}
 use Rattle.position.specs.Fates.{onZero}
 use Rattle.position.specs.Drawn.{sourcePixel, crossed}
 use Rattle.position.specs.Within.{readsSource, Within}
 use Rattle.position.specs.Inner.{isLeftOut, sourceRead, Safe}
-use Rattle.position.proofs.Columns.{within-column}
+use Rattle.places.proofs.Columns.{within-column}
 use Rattle.position.proofs.Writing.{on-map}
 
 -- ---- where the code reads

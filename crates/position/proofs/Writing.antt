@@ -10,11 +10,11 @@ use Rattle.pixels.specs.Pixels.{withPixel}
 use Rattle.pixels.proofs.Pixels.{length-put, byte-put-other, byte-put-lt}
 use Rattle.moves.specs.declared.Setup.{Setup}
 use Rattle.moves.specs.declared.Pen.{Pen}
-use Rattle.position.specs.Places.{isWithin, columnOf, placeX, onMap, inMask, isMove, isNulled}
+use Rattle.places.specs.Places.{isWithin, columnOf, placeX, onMap, inMask, isMove, isNulled}
 use Rattle.position.specs.Fates.{Fate, Moved, Nulled, OutsideMap, OutsideMask, MaskZero, Compared, Written, onZero, isCompared, fateOf}
 use Rattle.position.specs.Drawn.{mixedPixel, drawnBy, drawn}
 use Rattle.position.specs.Inner.{isLeftOut, writtenOf}
-use Rattle.position.proofs.Columns.{within-column}
+use Rattle.places.proofs.Columns.{within-column}
 
 -- the destination's column and row
 abbrev column : Setup → Pen → ℕ

@@ -12,7 +12,7 @@ use Rattle.parts.specs.Drawings.{insideOf, withInside}
 use Rattle.moves.specs.declared.Setup.{Setup}
 use Rattle.moves.specs.declared.Pen.{Pen}
 use Rattle.moves.specs.Moves.{penWith}
-use Rattle.position.specs.Places.{columnOf, placeX}
+use Rattle.places.specs.Places.{columnOf, placeX}
 use Rattle.position.specs.Fates.{Fate, Moved, Nulled, OutsideMap, OutsideMask, MaskZero, Compared, Written, destinationPixel, fateOf}
 
 -- 01, One position: the source pixel

@@ -9,7 +9,7 @@ use Rattle.pixels.specs.Pixels.{pixelAt}
 use Rattle.mixes.specs.Conditions.{conditionHolds}
 use Rattle.moves.specs.declared.Setup.{Setup}
 use Rattle.moves.specs.declared.Pen.{Pen}
-use Rattle.position.specs.Places.{columnOf, placeX, onMap, maskX, maskY, inMask, isMove, isNulled}
+use Rattle.places.specs.Places.{columnOf, placeX, onMap, maskX, maskY, inMask, isMove, isNulled}
 
 -- docs/DECISIONS.md, 43: what becomes of a position; only `Written` writes
 pub data Fate : Type 0 where

@@ -1,19 +1,15 @@
 -- How the code asks it: what functions inside promise and ask of each other, proved from the rules; nothing here has to be believed.
 use mathlib.Core.Path.{_≡_}
-use mathlib.Core.Bool.{Bool, true, not, _&&_, _||_}
+use mathlib.Core.Bool.{Bool, true, not, _||_}
 use mathlib.Core.List.{List}
-use Prim.Native.Nat.{ℕ, _%_}
-use lib.Dec.{eqb}
-use lib.IntN.{ℤ}
+use Prim.Native.Nat.{ℕ}
 use Rattle.numbers.specs.Choose.{choose}
 use Rattle.pixels.specs.Pixels.{withPixel}
-use Rattle.parts.specs.declared.drawing.Drawing.{Drawing}
 use Rattle.rules.specs.Maps.{endHolds}
 use Rattle.moves.specs.declared.Setup.{Setup}
 use Rattle.moves.specs.declared.Pen.{Pen}
-use Rattle.moves.specs.Steps.{codeStep}
 use Rattle.moves.specs.Inner.{pointersInside}
-use Rattle.position.specs.Places.{columnOf, placeX, onMap, inMask, isMove, isFirst, isLast, ofRun, onBoundary, isNulled}
+use Rattle.places.specs.Places.{columnOf, placeX, onMap, inMask, isMove, isNulled}
 use Rattle.position.specs.Fates.{onZero, isCompared}
 use Rattle.position.specs.Drawn.{sourcePixel, mixedPixel}
 use Rattle.position.specs.Within.{readsSource}
@@ -28,22 +24,6 @@ unfoldable pub writtenOf : Setup → List ℕ → Pen → List ℕ
 writtenOf s memory pen =
     choose (isCompared s memory pen) memory
     (withPixel memory (s .destination) (columnOf (placeX s pen)) (columnOf (pen .destination .y)) (mixedPixel s memory pen))
-
--- what the drawing mode leaves out, from E and the drawing alone
-unfoldable pub nulledBy : Setup → ℤ → Drawing → Bool
-nulledBy s e d =
-    (eqb (s .flow .mode) 1 && isFirst d) || (eqb (s .flow .mode) 2 && isLast s d) || (eqb (s .flow .mode) 3 && not (onBoundary s e d))
-
--- the same of one code
-unfoldable pub codeNulled : Setup → ℕ → ℕ → Bool
-codeNulled s code done =
-    (eqb (s .flow .mode) 1 && eqb done 0)
-    || (eqb (s .flow .mode) 2 && eqb done (code % 16))
-    || (eqb (s .flow .mode) 3 && not (ofRun (codeStep code .y) (not (eqb done 0)) (not (eqb done (code % 16)))))
-
--- nothing is written, wherever the position is: a move code, or what the drawing mode leaves out
-unfoldable pub heldBack : Setup → ℤ → Drawing → Bool
-heldBack s e d = isMove s d || nulledBy s e d
 
 -- the source pixel as it is read, 0 where it is not
 unfoldable pub sourceRead : Setup → List ℕ → Pen → ℕ

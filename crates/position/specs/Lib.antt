@@ -1,4 +1,3 @@
-pub mod Places
 pub mod Fates
 pub mod Drawn
 pub mod Within

@@ -6,7 +6,7 @@ use Rattle.pixels.specs.Maps.{placeOf}
 use Rattle.moves.specs.declared.Flow.{Flow}
 use Rattle.moves.specs.declared.Setup.{Setup}
 use Rattle.moves.specs.declared.Pen.{Pen}
-use Rattle.position.specs.Places.{columnOf, placeX, onMap, maskX, maskY, inMask}
+use Rattle.places.specs.Places.{columnOf, placeX, onMap, maskX, maskY, inMask}
 
 -- 01, One position: the source pixel is read where a source field is 10 or the pattern is 9
 unfoldable pub readsSource : Flow → Bool

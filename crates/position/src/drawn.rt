@@ -6,12 +6,11 @@ ghost use Rattle.pixels.specs.Maps.{bitsOf};
 ghost use Rattle.mixes.specs.Mixes.{mixed};
 ghost use Rattle.position.specs.Drawn as defined;
 ghost use Rattle.position.specs.Drawn.{isOne, insideAt, isForeground, inkOf, drawn};
-ghost use Rattle.position.specs.Places.{onMap, inMask};
+ghost use Rattle.places.specs.Places.{onMap, inMask};
 ghost use Rattle.position.specs.Within.{readsSource, Within};
 ghost use Rattle.position.specs.Inner.{sourceRead, writtenOf};
 use crate::fates::is_compared;
 use crate::fates::is_left_out;
-use crate::places::destination_of;
 use mixes::mix;
 use moves::Pen;
 use moves::Setup;
@@ -22,6 +21,7 @@ use pixels::find;
 use pixels::get;
 use pixels::store;
 use pixels::value;
+use places::places::destination_of;
 
 // Whether the source pixel is read: a source field is 10, or the pattern is made from the source.
 fn reads_source(setup: Setup) -> bool

@@ -3,19 +3,19 @@ ghost use mathlib.Core.Bool.{true};
 ghost use lib.ListN.{length};
 ghost use Rattle.pixels.specs.Maps.{bitsOf};
 ghost use Rattle.mixes.specs.Conditions.{conditionHolds};
-ghost use Rattle.position.specs.Places.{onMap, inMask};
+ghost use Rattle.places.specs.Places.{onMap, inMask};
 ghost use Rattle.position.specs.Fates.{onZero};
 ghost use Rattle.position.specs.Within.{Within};
 ghost use Rattle.position.specs.Inner.{isLeftOut};
-use crate::modes::is_held_back;
-use crate::places::in_mask;
-use crate::places::mask_of;
-use crate::places::on_map;
 use mixes::conditions::holds;
 use moves::Pen;
 use moves::Setup;
 use pixels::bits_of;
 use pixels::get;
+use places::modes::is_held_back;
+use places::places::in_mask;
+use places::places::mask_of;
+use places::places::on_map;
 
 // Whether the mask pixel is 0, where its map is used; the destination is inside its map and the mask boundary.
 fn is_on_zero(setup: Setup, memory: &[u8], pen: Pen) -> bool

@@ -1,5 +1,3 @@
 // One position: what becomes of it, and what it writes.
 pub mod drawn;
 mod fates;
-mod modes;
-mod places;

@@ -24,7 +24,7 @@ use Rattle.moves.specs.Steps.{lineStep, codeStep}
 use Rattle.moves.specs.Turns.{opposite, turnedBy, circledBy, pointStepped, spotStepped}
 use Rattle.position.specs.Drawn.{sourcePixel, isForeground, inkOf, picked, mixedPixel, drawnBy, drawn, isOne, insideAt, crossed}
 use Rattle.position.specs.Fates.{destinationPixel, onZero, isCompared, fateOf}
-use Rattle.position.specs.Places.{isWithin, columnOf, onMap, maskX, maskY, inMask, isMove, isFirst, isLast, isNulled, placeX}
+use Rattle.places.specs.Places.{isWithin, columnOf, onMap, maskX, maskY, inMask, isMove, isFirst, isLast, isNulled, placeX}
 use Rattle.runs.specs.Runs.{begun, positioned, stepped, after}
 use Rattle.coprocessor.specs.Fresh.{sizeHolds, freshOf, freshAnswer}
 use Rattle.coprocessor.specs.Runs.{setupOf, penOf, withPen, ranOf, runRefusal, runAnswer, runMemory}

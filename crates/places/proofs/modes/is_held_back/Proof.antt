@@ -1,0 +1,63 @@
+-- `is_held_back` is the definition at each kind of drawing.
+use mathlib.Core.Path.{sym, _∙_}
+use lib.Dec.{eqb}
+use mir.Syntax.{w32}
+use mir.ValLaws.{toZ-ofZ}
+use Rattle.places.specs.Places.{isMove, isFirst, isLast, onBoundary}
+use Rattle.places.specs.Inner.{nulledBy, heldBack}
+use Rattle.places.proofs.ModeLaws.{none-left}
+use borrow.Author.Needs.{needs}
+use Rattle.places.proofs.modes.is_held_back.Statement.{statement}
+use Rattle.places.proofs.modes.is_held_back.Tie as tie
+
+enum-told : tie.Need-enum-told
+enum-told c = search needs
+
+enum-known-drawing : tie.Need-enum-known-drawing
+enum-known-drawing c = search needs
+
+line-nulled-requires : tie.Need-line-nulled-requires
+line-nulled-requires c κs = search needs
+
+enum-known-drawing-2 : tie.Need-enum-known-drawing-2
+enum-known-drawing-2 c = search needs
+
+code-held-back-requires : tie.Need-code-held-back-requires
+code-held-back-requires c κs = search needs
+
+enum-told-2 : tie.Need-enum-told-2
+enum-told-2 c = search needs
+
+returns : tie.Need-returns
+unfolding isMove isFirst isLast onBoundary nulledBy heldBack
+returns c =
+    let mode = c .before .before .args .setup .flow .mode in
+    rw (c .enum-told .given .1) (sym (none-left (eqb mode 1) (eqb mode 2) (eqb mode 3)))
+
+returns-2 : tie.Need-returns-2
+unfolding isMove heldBack
+returns-2 c = rw (c .before .before .drawing .given .1, c .line-nulled .ensures, toZ-ofZ w32 (c .before .before .before .before .args .e) (search needs))
+
+returns-3 : tie.Need-returns-3
+returns-3 c = rw (c .before .before .drawing2 .given .1) (c .code-held-back .ensures _)
+
+returns-4 : tie.Need-returns-4
+unfolding isMove isFirst isLast onBoundary nulledBy heldBack
+returns-4 c =
+    let mode = c .before .before .args .setup .flow .mode in
+    rw (c .enum-told2 .given .1) (sym (none-left (eqb mode 1) (eqb mode 2) (eqb mode 3)))
+
+pub is-held-back-spec : {M : Type 1} → statement M
+is-held-back-spec =
+    tie.close
+    (tie.spec
+    enum-told
+    enum-known-drawing
+    line-nulled-requires
+    enum-known-drawing-2
+    code-held-back-requires
+    enum-told-2
+    returns
+    returns-2
+    returns-3
+    returns-4)

@@ -1,0 +1,24 @@
+-- `line_bounds` is the definition, by the line's step.
+use mir.Syntax.{w32}
+use mir.ValLaws.{toZ-ofZ}
+use Rattle.places.specs.Places.{isLast, onBoundary}
+use borrow.Author.Needs.{needs}
+use Rattle.places.proofs.modes.line_bounds.Statement.{statement}
+use Rattle.places.proofs.modes.line_bounds.Tie as tie
+
+line-step-requires : tie.Need-line-step-requires
+line-step-requires c κs = search needs
+
+moves-row-requires : tie.Need-moves-row-requires
+moves-row-requires c κs = search needs
+
+of-run-requires : tie.Need-of-run-requires
+of-run-requires c κs = search needs
+
+returns : tie.Need-returns
+unfolding isLast onBoundary
+returns c = rw (c .of-run .ensures, c .before .moves-row .ensures, c .before .before .before .line-step .ensures, toZ-ofZ w32 (c .before .before .before .before .before .args .e) (search needs))
+
+pub line-bounds-spec : {M : Type 1} → statement M
+line-bounds-spec =
+    tie.close (tie.spec line-step-requires moves-row-requires of-run-requires returns)

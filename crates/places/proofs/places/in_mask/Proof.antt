@@ -1,0 +1,50 @@
+-- `in_mask` is the definition: without a boundary all is inside, and otherwise both places from the mask's origin lie within.
+use mathlib.Core.Path.{_∙_}
+use mir.Syntax.{w16}
+use mir.ValLaws.{toZ-ofZ}
+use borrow.Author.Tests.{eq-eqb, ne-eqb}
+use Rattle.places.specs.Places.{maskX, maskY, inMask}
+use borrow.Author.Needs.{needs}
+use Rattle.places.proofs.places.in_mask.Statement.{statement}
+use Rattle.places.proofs.places.in_mask.Tie as tie
+
+returns : tie.Need-returns
+unfolding inMask
+returns c = rw (eq-eqb _ _ (c .if1 .taken))
+
+place-x-requires : tie.Need-place-x-requires
+place-x-requires c κs = search needs
+
+is-within-requires : tie.Need-is-within-requires
+is-within-requires c κs = search needs
+
+is-within-requires-2 : tie.Need-is-within-requires-2
+is-within-requires-2 c κs = search needs
+
+both-requires : tie.Need-both-requires
+both-requires c κs = search needs
+
+returns-2 : tie.Need-returns-2
+unfolding maskX maskY inMask
+returns-2 c =
+    let a = c .before .before .before .before .before .before .before .args in
+    let place = c .before .before .before .before in
+    let across = toZ-ofZ w16 (place .place-x .result) (record { sfits = place .place-x .ok }) ∙ place .place-x .ensures in
+    rw (
+      c .both .ensures,
+      c .before .is-within2 .ensures,
+      c .before .before .before .is-within .ensures,
+      ne-eqb _ _ (c .before .before .before .before .before .if1 .left),
+    )
+    (rw (across, toZ-ofZ w16 (a .pen .destination .y) (search (needs, c .before .before .struct-told .given))))
+
+pub in-mask-spec : {M : Type 1} → statement M
+in-mask-spec =
+    tie.close
+    (tie.spec
+    returns
+    place-x-requires
+    is-within-requires
+    is-within-requires-2
+    both-requires
+    returns-2)

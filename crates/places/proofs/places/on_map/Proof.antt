@@ -1,0 +1,40 @@
+-- `on_map` is the definition: both places from the origin 0, which are the destination's, lie within.
+use lib.IntN.{+ℤ-idr}
+use mathlib.Core.Path.{_∙_}
+use mir.Syntax.{w16}
+use mir.ValLaws.{toZ-ofZ}
+use Rattle.places.specs.Places.{placeX, onMap}
+use borrow.Author.Needs.{needs}
+use Rattle.places.proofs.places.on_map.Statement.{statement}
+use Rattle.places.proofs.places.on_map.Tie as tie
+
+place-x-requires : tie.Need-place-x-requires
+place-x-requires c κs = search needs
+
+is-within-requires : tie.Need-is-within-requires
+is-within-requires c κs = search needs
+
+is-within-requires-2 : tie.Need-is-within-requires-2
+is-within-requires-2 c κs = search needs
+
+both-requires : tie.Need-both-requires
+both-requires c κs = search needs
+
+returns : tie.Need-returns
+unfolding onMap
+returns c =
+    let a = c .before .before .before .before .before .args in
+    let place = c .before .before .before .before in
+    let across = toZ-ofZ w16 (place .place-x .result) (record { sfits = place .place-x .ok }) ∙ place .place-x .ensures in
+    rw (c .both .ensures, c .before .is-within2 .ensures, c .before .before .before .is-within .ensures)
+    (rw (
+      across,
+      toZ-ofZ w16 (a .pen .destination .y) (search (needs, c .before .before .struct-told .given)),
+      +ℤ-idr (placeX (a .setup) (a .pen)),
+      +ℤ-idr (a .pen .destination .y),
+    ))
+
+pub on-map-spec : {M : Type 1} → statement M
+on-map-spec =
+    tie.close
+    (tie.spec place-x-requires is-within-requires is-within-requires-2 both-requires returns)

@@ -1,0 +1,26 @@
+-- `place_x` is the definition's choice, by the sign of the difference.
+use mir.Syntax.{w16}
+use mir.ValLaws.{toZ-ofZ}
+use Rattle.places.specs.Places.{placeX}
+use borrow.Author.Needs.{needs}
+use Rattle.places.proofs.places.place_x.Statement.{statement}
+use Rattle.places.proofs.places.place_x.Tie as tie
+
+returns : tie.Need-returns
+unfolding placeX
+returns c =
+    let a = c .before .before .before .before .before .before .args in
+    let x = toZ-ofZ w16 (a .pen .destination .x) (search (needs, c .before .before .before .before .struct-told .given)) in
+    let edge = toZ-ofZ w16 (a .setup .edge) (search (needs, c .before .before .struct-told2 .given .1 .1 .1 .1 .1 .1 .1 .1 .1 .1 .1 .1 .1)) in
+    rw (rw (x, edge) at (c .before .if1 .taken), edge)
+
+returns-2 : tie.Need-returns-2
+unfolding placeX
+returns-2 c =
+    let a = c .before .before .before .before .before .before .args in
+    let x = toZ-ofZ w16 (a .pen .destination .x) (search (needs, c .before .before .before .before .struct-told .given)) in
+    let edge = toZ-ofZ w16 (a .setup .edge) (search (needs, c .before .before .struct-told2 .given .1 .1 .1 .1 .1 .1 .1 .1 .1 .1 .1 .1 .1)) in
+    rw (rw (x, edge) at (c .before .if1 .left), x)
+
+pub place-x-spec : {M : Type 1} → statement M
+place-x-spec = tie.close (tie.spec returns returns-2)
