@@ -1,6 +1,6 @@
 //! The drawing half of the XGA coprocessor, position by position, to be read line by line against 01.
 //!
-//! Where 003 overrules 01 the difference is D1 to D4 of docs/DIFFERENCES.md.
+//! Where 003 overrules 01 the difference is D1 to D5 of docs/DIFFERENCES.md.
 //! Where the papers are silent, docs/DECISIONS.md decides.
 
 pub mod boundary;
