@@ -3,8 +3,8 @@
 /// The code that stops.
 pub const STOP: u8 = 0x00;
 
-/// Direction 0 right, 1 up right, then anticlockwise; up lowers Y.
-const DIRECTIONS: [(i64, i64); 8] = [
+/// What a step adds to X and Y: direction 0 right, 1 up right, then anticlockwise; up lowers Y.
+pub const DIRECTIONS: [(i64, i64); 8] = [
     (1, 0),
     (1, -1),
     (0, -1),

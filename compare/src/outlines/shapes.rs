@@ -1,6 +1,7 @@
 //! Random closed outlines, by lines, by codes or by both, inside a map or cut by its edges.
 
 use super::edges::{Edge, Point};
+use model::codes::DIRECTIONS;
 use model::random::Random;
 
 /// The most steps of a code.
@@ -9,18 +10,6 @@ pub const LONGEST_CODE: i64 = 15;
 /// How far an outline goes left of or above the map at most, and right of or below it: no line is then too long for its registers.
 const FAR_LEFT: i64 = 1_500;
 const FAR_RIGHT: i64 = 2_500;
-
-/// The steps of the eight directions of codes: 0 right, 1 up right, then anticlockwise.
-pub const DIRECTIONS: [Point; 8] = [
-    (1, 0),
-    (1, -1),
-    (0, -1),
-    (-1, -1),
-    (-1, 0),
-    (-1, 1),
-    (0, 1),
-    (1, 1),
-];
 
 /// What an outline is drawn by.
 #[derive(Clone, Copy, Debug, PartialEq, Eq)]

@@ -1,9 +1,10 @@
 //! An outline drawn and filled through the proved library's calls, as a design station would.
 
 use super::edges::{Edge, Point};
-use super::shapes::{Stroke, DIRECTIONS};
+use super::shapes::Stroke;
 use crate::board::{self, IMAGE};
 use crate::guarded::Guarded;
+use model::codes::DIRECTIONS;
 use model::random::Random;
 
 /// Map A, which is filled, and map B, which has the outline.

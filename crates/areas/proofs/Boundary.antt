@@ -1,8 +1,8 @@
 -- The area boundary mode draws exactly the positions where the outline passes between two rows: a step's turn in Y is seen from the rows before and after it.
 use mathlib.Core.Path.{_≡_, refl, sym, ap, ap₂, _∙_}
-use mathlib.Core.Bool.{Bool, true, false, not, _&&_, _||_, or-false}
+use mathlib.Core.Bool.{Bool, true, false, not, _||_, or-false}
 use Prim.Native.Nat.{ℕ, zero, suc, _+_, _%_}
-use lib.Dec.{ltb, eqb}
+use lib.Dec.{ltb}
 use lib.IntN.{ℤ}
 use Rattle.numbers.specs.Choose.{choose}
 use Rattle.parts.specs.declared.drawing.Drawing.{Drawing}
@@ -18,7 +18,8 @@ use Rattle.moves.specs.Steps.{lineStep, codeStep, goesUp}
 use Rattle.moves.specs.Moves.{destinationBy, penStepped, penWith, penGone, lineMoved, codesMoved, movedBy, moved}
 use Rattle.moves.proofs.CircledLaws.{OnCircle, circled-on}
 use Rattle.moves.proofs.Counters.{drawing-moved}
-use Rattle.places.specs.Places.{isFirst, isLast, isNulled}
+use Rattle.places.specs.Places.{isFirst, isLast, nulledBy, isNulled}
+use Rattle.places.proofs.ModeLaws.{boundary-null}
 use Rattle.areas.specs.Crossings.{penAfter, rowAfter, below, samePlace, crosses}
 use Rattle.areas.specs.Outlines.{atStart}
 use Rattle.areas.proofs.Rows.{goesDown, down-seen, up-seen}
@@ -56,10 +57,6 @@ pub leading : Setup → Pen → ℕ → Turn
 leading s pen zero = Stay
 leading s pen (suc n) = leaving s pen n
 
--- in mode 11 neither first nor last is nulled
-boundary-mode : (mode : ℕ) → mode ≡ 3 → (a b c : Bool) → ((eqb mode 1 && a) || (eqb mode 2 && b) || (eqb mode 3 && c)) ≡ c
-boundary-mode mode e a b c = rw e
-
 module _ (s : Setup) (pen : Pen) (bounds : s .course .bounds ≡ true) (start : atStart (pen .drawing) ≡ true) where
   pub reached-after : (n : ℕ) → Reached s (leading s pen n) (penAfter s n pen .drawing)
   unfolding penAfter leading leaving
@@ -92,7 +89,7 @@ module _ (s : Setup) (pen : Pen) (mode : s .flow .mode ≡ 3) (bounds : s .cours
   -- 02, 102: of a line or codes of a write form the mode keeps back exactly the positions that do not cross; of a read form, whose destination stays in its
   -- row, nothing is said here
   pub boundary-drawn : (n : ℕ) → unfinished (penAfter s n pen .drawing) ≡ true → isNulled s (penAfter s n pen) ≡ not (crosses s pen n)
-  unfolding isNulled leaving
+  unfolding nulledBy isNulled leaving
   boundary-drawn n going =
-      boundary-mode (s .flow .mode) mode (isFirst (penAfter s n pen .drawing)) (isLast s (penAfter s n pen .drawing)) _
+      boundary-null (s .flow .mode) (isFirst (penAfter s n pen .drawing)) (isLast s (penAfter s n pen .drawing)) _ mode
       ∙ ap not (boundary-turns s (penAfter s n pen .e) (reached-after s pen bounds start n) going ∙ sym (crosses-turns n))

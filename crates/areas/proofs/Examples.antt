@@ -28,7 +28,7 @@ use Rattle.moves.specs.Turns.{opposite, turnedBy, circledBy, pointStepped, spot
 use Rattle.moves.specs.Steps.{lineStep, codeStep, movesRow, goesUp}
 use Rattle.moves.specs.Moves.{sourceBy, destinationBy, penStepped, penWith, penGone, lineError, rises, lineMoved, codePassed, codesMoved}
 use Rattle.moves.specs.Moves.{columnPassed, rowPoint, rowSpot, rowPassed, blockMoved, movedBy, moved}
-use Rattle.places.specs.Places.{isWithin, columnOf, placeX, onMap, inMask, isMove, isFirst, isLast, ofRun, onBoundary, isNulled}
+use Rattle.places.specs.Places.{isWithin, columnOf, placeX, onMap, inMask, isMove, isFirst, isLast, ofRun, onBoundary, nulledBy, isNulled}
 use Rattle.position.specs.Fates.{destinationPixel, onZero, isCompared, fateOf}
 use Rattle.position.specs.Drawn.{sourcePixel, isOne, insideAt, crossed, isForeground, inkOf, picked, mixedPixel, drawnBy, drawn}
 use Rattle.runs.specs.Runs.{begun, positioned, stepped, after}
@@ -164,7 +164,7 @@ unfolding byteOf forth back residue circle field withField bitsOf startOf placeO
     fillHolds fieldsHold mixesHold usedMaps formatsHold endsHold startRefusal codeAt noneStopped countersHold pointersHold codesFrom totalOf signOf courseOf
     flowOf edgeOf opposite turnedBy circledBy pointStepped spotStepped lineStep codeStep movesRow goesUp sourceBy destinationBy penStepped penWith penGone lineError
     rises lineMoved codePassed codesMoved columnPassed rowPoint rowSpot rowPassed blockMoved movedBy moved isWithin columnOf placeX onMap inMask isMove
-    isFirst isLast ofRun onBoundary isNulled destinationPixel onZero isCompared fateOf sourcePixel isOne insideAt crossed isForeground inkOf picked mixedPixel
+    isFirst isLast ofRun onBoundary nulledBy isNulled destinationPixel onZero isCompared fateOf sourcePixel isOne insideAt crossed isForeground inkOf picked mixedPixel
     drawnBy drawn begun positioned stepped after sizeHolds startRefusalOf mapsReduced pointersReduced reducedOf goesOn validOf setupOf penOf ranOf runRefusal
     runMemory penAfter below samePlace crosses crossesAt crossings atStart outlined crossingsOf isOdd foregroundAfter crossingsUpTo
 example-area = (refl, refl, refl, refl, refl, refl)

@@ -23,7 +23,7 @@ use Rattle.moves.specs.Steps.{lineStep}
 use Rattle.moves.specs.Turns.{turnedBy, circledBy, pointStepped, spotStepped}
 use Rattle.position.specs.Drawn.{isForeground, inkOf, picked, mixedPixel, drawnBy, drawn, crossed}
 use Rattle.position.specs.Fates.{destinationPixel, onZero, isCompared, fateOf}
-use Rattle.places.specs.Places.{isWithin, columnOf, onMap, maskX, maskY, inMask, isMove, isFirst, isLast, isNulled, placeX}
+use Rattle.places.specs.Places.{isWithin, columnOf, onMap, maskX, maskY, inMask, isMove, isFirst, isLast, nulledBy, isNulled, placeX}
 use Rattle.runs.specs.Runs.{begun, positioned, stepped, after}
 use Rattle.coprocessor.specs.Fresh.{sizeHolds, freshOf}
 use Rattle.coprocessor.specs.Runs.{setupOf, penOf, withPen, ranOf, runRefusal, runAnswer, runMemory}
@@ -38,5 +38,5 @@ use Rattle.bench.specs.Printed.{byteBefore, linesOf, lineAfter, standAft
 use Rattle.bench.specs.Sample.{sampleInput, sampleOutput}
 
 pub sample-printed : printed sampleInput ≡ sampleOutput
-unfolding bytesNumber byteOf covers latchedBytes latched forth residue circle field withField bitsOf startOf placeOf shiftOf neededOf byteAt pixelAt withPixel holdsOf conditionHolds tableBit logical merged mixed touched taken takenLow takenTerm takenDestination mapReduced termReduced termsReduced compareReduced pointReduced destinationReduced spotReduced registers among listed placed mapTaken termsTaken inkTaken compareTaken pointTaken spotTaken countersHold pointersHold mapAt formatHolds endHolds isMap isLine isCodes isBlock draws sourceIsColour usesSource usesPattern usesMask isSource isPattern fieldsHold mixesHold usedMaps formatsHold endsHold startRefusal sourceStarted patternStarted codeAt drawingStarted signOf courseOf flowOf sourceBy destinationBy penStepped penWith penGone lineError lineMoved movedBy moved lineStep turnedBy circledBy pointStepped spotStepped isForeground inkOf picked mixedPixel drawnBy drawn destinationPixel onZero isCompared fateOf isWithin columnOf onMap maskX maskY inMask isMove isFirst isLast isNulled begun positioned stepped after sizeHolds freshOf setupOf penOf withPen ranOf runRefusal runAnswer runMemory startRefusalOf mapsReduced pointersReduced reducedOf goesOn validOf stored startsBy started startedRefusal writeRefusal settledBy writeAnswer isBlank kept split wordsOf digitOf digits value numberFrom numberOf isLetter writeOf runOf writeFrom runFrom callFrom callOf lineCall decimal numbered answerText hexDigit separatorOf byteText bytesText memoryText answerOf writeTold runTold toldOf memoryAfter byteBefore linesOf lineAfter standAfter lineText standAfterAll textOfAll firstStand printed sampleInput sampleOutput withInside isFill modeOf edgeOf rises placeX crossed
+unfolding bytesNumber byteOf covers latchedBytes latched forth residue circle field withField bitsOf startOf placeOf shiftOf neededOf byteAt pixelAt withPixel holdsOf conditionHolds tableBit logical merged mixed touched taken takenLow takenTerm takenDestination mapReduced termReduced termsReduced compareReduced pointReduced destinationReduced spotReduced registers among listed placed mapTaken termsTaken inkTaken compareTaken pointTaken spotTaken countersHold pointersHold mapAt formatHolds endHolds isMap isLine isCodes isBlock draws sourceIsColour usesSource usesPattern usesMask isSource isPattern fieldsHold mixesHold usedMaps formatsHold endsHold startRefusal sourceStarted patternStarted codeAt drawingStarted signOf courseOf flowOf sourceBy destinationBy penStepped penWith penGone lineError lineMoved movedBy moved lineStep turnedBy circledBy pointStepped spotStepped isForeground inkOf picked mixedPixel drawnBy drawn destinationPixel onZero isCompared fateOf isWithin columnOf onMap maskX maskY inMask isMove isFirst isLast nulledBy isNulled begun positioned stepped after sizeHolds freshOf setupOf penOf withPen ranOf runRefusal runAnswer runMemory startRefusalOf mapsReduced pointersReduced reducedOf goesOn validOf stored startsBy started startedRefusal writeRefusal settledBy writeAnswer isBlank kept split wordsOf digitOf digits value numberFrom numberOf isLetter writeOf runOf writeFrom runFrom callFrom callOf lineCall decimal numbered answerText hexDigit separatorOf byteText bytesText memoryText answerOf writeTold runTold toldOf memoryAfter byteBefore linesOf lineAfter standAfter lineText standAfterAll textOfAll firstStand printed sampleInput sampleOutput withInside isFill modeOf edgeOf rises placeX crossed
 sample-printed = refl

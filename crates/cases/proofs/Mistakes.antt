@@ -23,7 +23,7 @@ use Rattle.moves.specs.Steps.{lineStep, codeStep, movesRow, goesUp}
 use Rattle.moves.specs.Turns.{opposite, turnedBy, circledBy, pointStepped, spotStepped}
 use Rattle.position.specs.Drawn.{sourcePixel, isForeground, inkOf, picked, mixedPixel, drawnBy, drawn, isOne, insideAt, crossed}
 use Rattle.position.specs.Fates.{destinationPixel, onZero, isCompared, fateOf}
-use Rattle.places.specs.Places.{isWithin, columnOf, onMap, maskX, maskY, inMask, isMove, isFirst, isLast, isNulled, placeX, ofRun, onBoundary}
+use Rattle.places.specs.Places.{isWithin, columnOf, onMap, maskX, maskY, inMask, isMove, isFirst, isLast, nulledBy, isNulled, placeX, ofRun, onBoundary}
 use Rattle.runs.specs.Runs.{begun, positioned, stepped, after}
 use Rattle.image.specs.Counters.{countersOf, drawingOf}
 use Rattle.image.specs.Fields.{laid, counterFields, headFields, mapFields, mapsFields, wordFields, bankFields, fieldsBy}
@@ -40,5 +40,5 @@ use Rattle.cases.specs.Cases.{mapped, inked, rows, codes}
 use Rattle.cases.specs.Mistakes.{stillCode, row, earlierCodes, notTiled, eachCodeNulled, sourceForth, patternAlong, destinationInverted, rowReturned, errorReduced, onePosition, boundary, boundaryDown, boundaryUp, boundaryLevel, boundaryCodes, boundaryLeft, fill, filledByRows, filledInPlace, cutFill, cutBoundary, insideAtStart, risenAtStart, fillRefused, lowestNumber, unlistedByte, codeZero, maskBoundary, firstCodeStops, pointersTurned, sizes, noImage, cutLine, mistakes}
 
 pub avoided : Played mistakes
-unfolding numberOf byteOf partOf covers latchedBytes latched forth back residue circle field withField bitsOf startOf placeOf shiftOf neededOf byteAt pixelAt withPixel holdsOf conditionHolds tableBit logical gathered scattered worked arithmetic merged mixed touched taken takenLow takenTerm takenDestination mapReduced termReduced termsReduced compareReduced pointReduced destinationReduced spotReduced registers among listed placed mapTaken termsTaken inkTaken compareTaken pointTaken spotTaken noneStopped countersHold pointersHold mapAt formatHolds endHolds isInside isMap isLine isCodes isBlock draws sourceIsColour usesSource usesPattern usesMask isSource isPattern fieldsHold mixesHold usedMaps formatsHold endsHold startRefusal turned sourceStarted patternStarted codeAt drawingStarted signOf courseOf flowOf sourceBy destinationBy penStepped penWith penGone lineError lineMoved codePassed codesMoved columnPassed rowPoint rowSpot rowPassed blockMoved movedBy moved lineStep codeStep opposite turnedBy circledBy pointStepped spotStepped sourcePixel isForeground inkOf picked mixedPixel drawnBy drawn destinationPixel onZero isCompared fateOf isWithin columnOf onMap maskX maskY inMask isMove isFirst isLast isNulled begun positioned stepped after sizeHolds freshOf freshAnswer setupOf penOf withPen ranOf runRefusal runAnswer runMemory startRefusalOf mapsReduced pointersReduced reducedOf goesOn validOf stored startsBy started startedRefusal writeRefusal settledBy writeAnswer same zeros written answers played Played mapped inked rows codes stillCode row earlierCodes notTiled eachCodeNulled sourceForth patternAlong destinationInverted rowReturned errorReduced onePosition boundary boundaryDown boundaryUp boundaryLevel boundaryCodes boundaryLeft fill filledByRows filledInPlace cutFill cutBoundary insideAtStart risenAtStart fillRefused lowestNumber unlistedByte codeZero maskBoundary firstCodeStops pointersTurned sizes noImage cutLine mistakes isOneBit countersOf drawingOf laid counterFields headFields mapFields mapsFields wordFields bankFields fieldsBy at mapFrom inkFrom pointFrom spotFrom mapsFrom termsFrom compareFrom countersFrom pointWord spotWord sizeWord inksWord mapWords termWords colourWords pointerWords bankOf fieldsOf imageOf loaded zeroCounters remains loads saves saveRefusal saved loadAnswer wordsOf valueAt readRefusal readAnswer le insideOf withInside isFill modeOf fillHolds edgeOf movesRow goesUp rises placeX ofRun onBoundary isOne insideAt crossed
+unfolding numberOf byteOf partOf covers latchedBytes latched forth back residue circle field withField bitsOf startOf placeOf shiftOf neededOf byteAt pixelAt withPixel holdsOf conditionHolds tableBit logical gathered scattered worked arithmetic merged mixed touched taken takenLow takenTerm takenDestination mapReduced termReduced termsReduced compareReduced pointReduced destinationReduced spotReduced registers among listed placed mapTaken termsTaken inkTaken compareTaken pointTaken spotTaken noneStopped countersHold pointersHold mapAt formatHolds endHolds isInside isMap isLine isCodes isBlock draws sourceIsColour usesSource usesPattern usesMask isSource isPattern fieldsHold mixesHold usedMaps formatsHold endsHold startRefusal turned sourceStarted patternStarted codeAt drawingStarted signOf courseOf flowOf sourceBy destinationBy penStepped penWith penGone lineError lineMoved codePassed codesMoved columnPassed rowPoint rowSpot rowPassed blockMoved movedBy moved lineStep codeStep opposite turnedBy circledBy pointStepped spotStepped sourcePixel isForeground inkOf picked mixedPixel drawnBy drawn destinationPixel onZero isCompared fateOf isWithin columnOf onMap maskX maskY inMask isMove isFirst isLast nulledBy isNulled begun positioned stepped after sizeHolds freshOf freshAnswer setupOf penOf withPen ranOf runRefusal runAnswer runMemory startRefusalOf mapsReduced pointersReduced reducedOf goesOn validOf stored startsBy started startedRefusal writeRefusal settledBy writeAnswer same zeros written answers played Played mapped inked rows codes stillCode row earlierCodes notTiled eachCodeNulled sourceForth patternAlong destinationInverted rowReturned errorReduced onePosition boundary boundaryDown boundaryUp boundaryLevel boundaryCodes boundaryLeft fill filledByRows filledInPlace cutFill cutBoundary insideAtStart risenAtStart fillRefused lowestNumber unlistedByte codeZero maskBoundary firstCodeStops pointersTurned sizes noImage cutLine mistakes isOneBit countersOf drawingOf laid counterFields headFields mapFields mapsFields wordFields bankFields fieldsBy at mapFrom inkFrom pointFrom spotFrom mapsFrom termsFrom compareFrom countersFrom pointWord spotWord sizeWord inksWord mapWords termWords colourWords pointerWords bankOf fieldsOf imageOf loaded zeroCounters remains loads saves saveRefusal saved loadAnswer wordsOf valueAt readRefusal readAnswer le insideOf withInside isFill modeOf fillHolds edgeOf movesRow goesUp rises placeX ofRun onBoundary isOne insideAt crossed
 avoided = (refl, (refl, (refl, (refl, (refl, (refl, (refl, (refl, (refl, (refl, (refl, (refl, (refl, (refl, (refl, (refl, (refl, (refl, (refl, (refl, (refl, (refl, (refl, (refl, (refl, (refl, (refl, (refl, (refl, (refl, (refl, tt)))))))))))))))))))))))))))))))

@@ -23,7 +23,7 @@ use Rattle.moves.specs.Steps.{lineStep, codeStep}
 use Rattle.moves.specs.Turns.{turnedBy, circledBy, pointStepped, spotStepped}
 use Rattle.position.specs.Drawn.{sourcePixel, isForeground, inkOf, picked, mixedPixel, drawnBy, drawn, crossed}
 use Rattle.position.specs.Fates.{destinationPixel, onZero, isCompared, fateOf}
-use Rattle.places.specs.Places.{isWithin, columnOf, onMap, maskX, maskY, inMask, isMove, isFirst, isLast, isNulled, placeX}
+use Rattle.places.specs.Places.{isWithin, columnOf, onMap, maskX, maskY, inMask, isMove, isFirst, isLast, nulledBy, isNulled, placeX}
 use Rattle.runs.specs.Runs.{begun, positioned, stepped, after}
 use Rattle.image.specs.Counters.{countersOf}
 use Rattle.image.specs.Words.{pointWord, spotWord, sizeWord, inksWord, mapWords, termWords, colourWords, pointerWords, bankOf}
@@ -36,5 +36,5 @@ use Rattle.cases.specs.Calls.{same, zeros, written, answers, played, Pla
 use Rattle.cases.specs.Cases.{mapped, inked, mixes, dot, rows, codes, based, case1, case2, case3, case4, case5, case6, case7, case8, case9, case10, case11, case12, sample, cases}
 
 pub table : HoldFrom 1 cases
-unfolding numberOf byteOf partOf covers latchedBytes latched forth back residue circle field withField bitsOf startOf placeOf shiftOf neededOf byteAt pixelAt withPixel holdsOf conditionHolds tableBit logical gathered scattered worked arithmetic merged mixed touched taken takenLow takenTerm takenDestination mapReduced termReduced termsReduced compareReduced pointReduced destinationReduced spotReduced registers among listed placed mapTaken termsTaken inkTaken compareTaken pointTaken spotTaken noneStopped countersHold pointersHold mapAt formatHolds endHolds isInside isMap isLine isCodes isBlock draws sourceIsColour usesSource usesPattern usesMask isSource isPattern fieldsHold mixesHold usedMaps formatsHold endsHold startRefusal turned sourceStarted patternStarted codeAt drawingStarted signOf courseOf flowOf sourceBy destinationBy penStepped penWith penGone lineError lineMoved codePassed codesMoved movedBy moved lineStep codeStep turnedBy circledBy pointStepped spotStepped sourcePixel isForeground inkOf picked mixedPixel drawnBy drawn destinationPixel onZero isCompared fateOf isWithin columnOf onMap maskX maskY inMask isMove isFirst isLast isNulled begun positioned stepped after sizeHolds freshOf freshAnswer setupOf penOf withPen ranOf runRefusal runAnswer runMemory startRefusalOf mapsReduced pointersReduced reducedOf goesOn validOf stored startsBy started startedRefusal writeRefusal settledBy writeAnswer same written answers played Played HoldFrom zeros mapped inked mixes dot rows codes based case1 case2 case3 case4 case5 case6 case7 case8 case9 case10 case11 case12 sample cases countersOf pointWord spotWord sizeWord inksWord mapWords termWords colourWords pointerWords bankOf wordsOf valueAt readRefusal readAnswer withInside isFill modeOf edgeOf rises placeX crossed
+unfolding numberOf byteOf partOf covers latchedBytes latched forth back residue circle field withField bitsOf startOf placeOf shiftOf neededOf byteAt pixelAt withPixel holdsOf conditionHolds tableBit logical gathered scattered worked arithmetic merged mixed touched taken takenLow takenTerm takenDestination mapReduced termReduced termsReduced compareReduced pointReduced destinationReduced spotReduced registers among listed placed mapTaken termsTaken inkTaken compareTaken pointTaken spotTaken noneStopped countersHold pointersHold mapAt formatHolds endHolds isInside isMap isLine isCodes isBlock draws sourceIsColour usesSource usesPattern usesMask isSource isPattern fieldsHold mixesHold usedMaps formatsHold endsHold startRefusal turned sourceStarted patternStarted codeAt drawingStarted signOf courseOf flowOf sourceBy destinationBy penStepped penWith penGone lineError lineMoved codePassed codesMoved movedBy moved lineStep codeStep turnedBy circledBy pointStepped spotStepped sourcePixel isForeground inkOf picked mixedPixel drawnBy drawn destinationPixel onZero isCompared fateOf isWithin columnOf onMap maskX maskY inMask isMove isFirst isLast nulledBy isNulled begun positioned stepped after sizeHolds freshOf freshAnswer setupOf penOf withPen ranOf runRefusal runAnswer runMemory startRefusalOf mapsReduced pointersReduced reducedOf goesOn validOf stored startsBy started startedRefusal writeRefusal settledBy writeAnswer same written answers played Played HoldFrom zeros mapped inked mixes dot rows codes based case1 case2 case3 case4 case5 case6 case7 case8 case9 case10 case11 case12 sample cases countersOf pointWord spotWord sizeWord inksWord mapWords termWords colourWords pointerWords bankOf wordsOf valueAt readRefusal readAnswer withInside isFill modeOf edgeOf rises placeX crossed
 table = (refl, ((refl, (refl, (refl, tt))), (refl, ((refl, (refl, (refl, tt))), (refl, ((refl, tt), (refl, ((refl, tt), (refl, ((refl, (refl, tt)), (refl, ((refl, tt), (refl, ((refl, tt), (refl, ((refl, tt), (refl, ((refl, tt), (refl, ((refl, tt), (refl, ((refl, tt), (refl, ((refl, (refl, tt)), (refl, ((refl, tt), tt))))))))))))))))))))))))))

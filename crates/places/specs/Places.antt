@@ -81,8 +81,10 @@ onBoundary s e (Codes count code done) =
 onBoundary s e (Block inside column row) = true
 
 -- 01, The functions: first null (mode 01), last null (mode 10); 02, 102: area boundary (mode 11); for each line and each code
+unfoldable pub nulledBy : Setup → ℤ → Drawing → Bool
+nulledBy s e d =
+    (eqb (s .flow .mode) 1 && isFirst d) || (eqb (s .flow .mode) 2 && isLast s d) || (eqb (s .flow .mode) 3 && not (onBoundary s e d))
+
+-- 01, One position: a nulled pixel, at the pen's E and drawing
 unfoldable pub isNulled : Setup → Pen → Bool
-isNulled s pen =
-    (eqb (s .flow .mode) 1 && isFirst (pen .drawing))
-    || (eqb (s .flow .mode) 2 && isLast s (pen .drawing))
-    || (eqb (s .flow .mode) 3 && not (onBoundary s (pen .e) (pen .drawing)))
+isNulled s pen = nulledBy s (pen .e) (pen .drawing)

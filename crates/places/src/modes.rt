@@ -2,12 +2,14 @@
 
 ghost use mathlib.Core.Path.{_≡_};
 ghost use mathlib.Core.Bool.{not};
+ghost use Prim.Native.Nat.{ℕ};
 ghost use lib.Dec.{eqb};
 ghost use lib.IntN.{ℤ};
+ghost use Rattle.rules.specs.Starts.{codeAt};
 ghost use Rattle.moves.specs.Steps.{codeStep};
 ghost use Rattle.parts.specs.declared.drawing.Drawing.the-variants.{Line, Codes};
-ghost use Rattle.places.specs.Places.{ofRun, onBoundary};
-ghost use Rattle.places.specs.Inner.{nulledBy, codeNulled, heldBack};
+ghost use Rattle.places.specs.Places.{ofRun, onBoundary, nulledBy};
+ghost use Rattle.places.specs.Inner.{heldBack};
 use moves::Setup;
 use moves::Turn;
 use moves::steps::code_step;
@@ -62,7 +64,7 @@ fn code_bounds(code: u8, done: u16, last: bool) -> bool
 
 // Whether the drawing mode leaves out a position of this code.
 fn code_nulled(setup: Setup, code: u8, done: u16) -> bool
-    ensures { λ r. ⌜ r ≡ codeNulled setup code done ⌝ }
+    ensures { λ r. ⌜ ((e : ℤ) (count i : ℕ) → codeAt (setup .steps) count i ≡ code → r ≡ nulledBy setup e (Codes count i done)) ⌝ }
 {
     let last = done == code as u16 % 16;
     let mode = setup.flow.mode;

@@ -17,7 +17,7 @@ use Rattle.rules.specs.Starts.{codeAt}
 use Rattle.moves.specs.declared.Turn.the-variants.{Forth}
 use Rattle.moves.specs.declared.Setup.{Setup}
 use Rattle.moves.specs.declared.Pen.{Pen}
-use Rattle.places.specs.Places.{isWithin, columnOf, placeX, onMap, maskX, maskY, inMask, isMove, isFirst, isLast, isNulled}
+use Rattle.places.specs.Places.{isWithin, columnOf, placeX, onMap, maskX, maskY, inMask, isMove, isFirst, isLast, nulledBy, isNulled}
 use Rattle.position.specs.Fates.{destinationPixel, onZero, isCompared, fateOf}
 use Rattle.position.specs.Drawn.{sourcePixel, isOne, isForeground, inkOf, picked, mixedPixel, drawnBy, drawn}
 
@@ -70,7 +70,7 @@ drawnIn s (x ∷ columns) memory = drawnIn s columns (drawn s memory (penAt x (L
 
 -- 01, Cases, 5: dimension 0: one position; first null writes nothing, and neither does last null
 pub case5 : (drawnIn (setup false 0 1 4) (pos 3 ∷ []) zeros ≡ zeros) × (drawnIn (setup false 0 2 4) (pos 3 ∷ []) zeros ≡ zeros)
-unfolding isMove isFirst isLast isNulled fateOf drawnBy drawn
+unfolding isMove isFirst isLast nulledBy isNulled fateOf drawnBy drawn
 case5 = (refl, refl)
 
 -- 01, Cases, 8: code 20 hex: no write
@@ -80,17 +80,17 @@ case8 = refl
 
 -- 01, Cases, 11: mask origin X 2, width register 1: columns 2 and 3 only
 pub case11 : drawnIn (setup false 1 0 4) (pos 1 ∷ pos 2 ∷ pos 3 ∷ pos 4 ∷ []) zeros ≡ 0 ∷ 0 ∷ 0xAA ∷ 0xAA ∷ 0 ∷ 0 ∷ 0 ∷ 0 ∷ []
-unfolding field withField bitsOf startOf placeOf shiftOf byteAt pixelAt withPixel tableBit logical gathered merged mixed holdsOf conditionHolds isWithin columnOf placeX onMap maskX maskY inMask isMove isFirst isLast isNulled destinationPixel onZero isCompared fateOf sourcePixel isOne isForeground inkOf picked mixedPixel drawnBy drawn
+unfolding field withField bitsOf startOf placeOf shiftOf byteAt pixelAt withPixel tableBit logical gathered merged mixed holdsOf conditionHolds isWithin columnOf placeX onMap maskX maskY inMask isMove isFirst isLast nulledBy isNulled destinationPixel onZero isCompared fateOf sourcePixel isOne isForeground inkOf picked mixedPixel drawnBy drawn
 case11 = refl
 
 -- the map's edges are inside, and the destination is not tiled
 pub edges : drawnIn (setup false 0 0 4) (negsuc 0 ∷ pos 0 ∷ pos 7 ∷ pos 8 ∷ []) zeros ≡ 0xAA ∷ 0 ∷ 0 ∷ 0 ∷ 0 ∷ 0 ∷ 0 ∷ 0xAA ∷ []
-unfolding field withField bitsOf startOf placeOf shiftOf byteAt pixelAt withPixel tableBit logical gathered merged mixed holdsOf conditionHolds isWithin columnOf placeX onMap maskX maskY inMask isMove isFirst isLast isNulled destinationPixel onZero isCompared fateOf sourcePixel isOne isForeground inkOf picked mixedPixel drawnBy drawn
+unfolding field withField bitsOf startOf placeOf shiftOf byteAt pixelAt withPixel tableBit logical gathered merged mixed holdsOf conditionHolds isWithin columnOf placeX onMap maskX maskY inMask isMove isFirst isLast nulledBy isNulled destinationPixel onZero isCompared fateOf sourcePixel isOne isForeground inkOf picked mixedPixel drawnBy drawn
 edges = refl
 
 -- condition 0 is always true
 pub compared : drawnIn (setup false 0 0 0) (pos 3 ∷ []) zeros ≡ zeros
-unfolding field withField bitsOf startOf placeOf shiftOf byteAt pixelAt withPixel tableBit logical gathered merged mixed holdsOf conditionHolds isWithin columnOf placeX onMap maskX maskY inMask isMove isFirst isLast isNulled destinationPixel onZero isCompared fateOf sourcePixel isOne isForeground inkOf picked mixedPixel drawnBy drawn
+unfolding field withField bitsOf startOf placeOf shiftOf byteAt pixelAt withPixel tableBit logical gathered merged mixed holdsOf conditionHolds isWithin columnOf placeX onMap maskX maskY inMask isMove isFirst isLast nulledBy isNulled destinationPixel onZero isCompared fateOf sourcePixel isOne isForeground inkOf picked mixedPixel drawnBy drawn
 compared = refl
 
 -- ---- what the pattern picks
@@ -98,5 +98,5 @@ compared = refl
 -- code 9 is 1 where the source pixel, here column 0, is not 0
 pub derived : (drawnIn (setup true 0 0 4) (pos 3 ∷ []) zeros ≡ 0 ∷ 0 ∷ 0 ∷ 0xBB ∷ 0 ∷ 0 ∷ 0 ∷ 0 ∷ [])
     × (drawnIn (setup true 0 0 4) (pos 3 ∷ []) (7 ∷ 0 ∷ 0 ∷ 0 ∷ 0 ∷ 0 ∷ 0 ∷ 0 ∷ []) ≡ 7 ∷ 0 ∷ 0 ∷ 0xAA ∷ 0 ∷ 0 ∷ 0 ∷ 0 ∷ [])
-unfolding field withField bitsOf startOf placeOf shiftOf byteAt pixelAt withPixel tableBit logical gathered merged mixed holdsOf conditionHolds isWithin columnOf placeX onMap maskX maskY inMask isMove isFirst isLast isNulled destinationPixel onZero isCompared fateOf sourcePixel isOne isForeground inkOf picked mixedPixel drawnBy drawn
+unfolding field withField bitsOf startOf placeOf shiftOf byteAt pixelAt withPixel tableBit logical gathered merged mixed holdsOf conditionHolds isWithin columnOf placeX onMap maskX maskY inMask isMove isFirst isLast nulledBy isNulled destinationPixel onZero isCompared fateOf sourcePixel isOne isForeground inkOf picked mixedPixel drawnBy drawn
 derived = (refl, refl)

@@ -19,6 +19,7 @@ use Rattle.moves.specs.declared.Flow.{Flow}
 use Rattle.moves.specs.declared.Setup.{Setup}
 use Rattle.moves.specs.declared.Pen.{Pen}
 use Rattle.moves.specs.Moves.{penWith, moved}
+use Rattle.moves.specs.Inner.{pointersInside}
 use Rattle.moves.proofs.Kept.{source-in, pattern-in, pointers-moved}
 use Rattle.places.specs.Places.{isWithin, onMap, maskX, maskY, inMask, isMove, isNulled}
 use Rattle.position.specs.Fates.{onZero}
@@ -112,10 +113,9 @@ module _ (s : Setup) (size : ℕ) (pen : Pen) where
         destination = λ on inside. let m = on-map s pen on in held-within size (s .destination) _ _ (m .0) (m .1) (h .destination);
       }
 
-  -- another drawing in hand changes nothing of that
-  pub safe-with : (d : Drawing) → Safe s size pen → Safe s size (penWith d pen)
-  unfolding penWith
-  safe-with d h =
+  -- of the pen it asks only where the used pointers lie
+  safe-at : (q : Pen) → pointersInside s q ≡ true → Safe s size pen → Safe s size q
+  safe-at q inside h =
       record {
         destination = h .destination;
         mask = h .mask;
@@ -123,20 +123,16 @@ module _ (s : Setup) (size : ℕ) (pen : Pen) where
         pattern = h .pattern;
         used = h .used;
         crossing = h .crossing;
-        pointers = h .pointers;
+        pointers = inside;
       }
 
+  -- so another drawing in hand changes nothing
+  pub safe-with : (d : Drawing) → Safe s size pen → Safe s size (penWith d pen)
+  unfolding penWith
+  safe-with d h = safe-at (penWith d pen) (h .pointers) h
+
   pub safe-moved : Safe s size pen → Safe s size (moved s pen)
-  safe-moved h =
-      record {
-        destination = h .destination;
-        mask = h .mask;
-        source = h .source;
-        pattern = h .pattern;
-        used = h .used;
-        crossing = h .crossing;
-        pointers = pointers-moved s pen (h .pointers);
-      }
+  safe-moved h = safe-at (moved s pen) (pointers-moved s pen (h .pointers)) h
 
 -- the pen at a position is safe where the pen before it is
 pub safe-crossed : (s : Setup) (size : ℕ) (memory : List ℕ) (pen : Pen) → Safe s size pen → Safe s size (crossed s memory pen)

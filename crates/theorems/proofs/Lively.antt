@@ -24,7 +24,7 @@ use Rattle.moves.specs.Steps.{lineStep, codeStep}
 use Rattle.moves.specs.Turns.{opposite, turnedBy, circledBy, pointStepped, spotStepped}
 use Rattle.position.specs.Drawn.{sourcePixel, isForeground, inkOf, picked, mixedPixel, drawnBy, drawn, isOne, insideAt, crossed}
 use Rattle.position.specs.Fates.{destinationPixel, onZero, isCompared, fateOf}
-use Rattle.places.specs.Places.{isWithin, columnOf, onMap, maskX, maskY, inMask, isMove, isFirst, isLast, isNulled, placeX}
+use Rattle.places.specs.Places.{isWithin, columnOf, onMap, maskX, maskY, inMask, isMove, isFirst, isLast, nulledBy, isNulled, placeX}
 use Rattle.runs.specs.Runs.{begun, positioned, stepped, after}
 use Rattle.coprocessor.specs.Fresh.{sizeHolds, freshOf, freshAnswer}
 use Rattle.coprocessor.specs.Runs.{setupOf, penOf, withPen, ranOf, runRefusal, runAnswer, runMemory}
@@ -34,5 +34,5 @@ use Rattle.cases.specs.Calls.{same, zeros, written, answers, played}
 use Rattle.theorems.specs.Lively.{startFor, live, byMix, bySize, everyDrawing, allPlayed}
 
 pub lively : allPlayed everyDrawing ≡ true
-unfolding numberOf byteOf partOf covers latchedBytes latched forth back residue circle field withField bitsOf startOf placeOf shiftOf neededOf byteAt pixelAt withPixel holdsOf conditionHolds tableBit logical gathered scattered worked arithmetic merged mixed touched taken takenLow takenTerm takenDestination mapReduced termReduced termsReduced compareReduced pointReduced destinationReduced spotReduced registers among listed placed mapTaken termsTaken inkTaken compareTaken pointTaken spotTaken noneStopped countersHold pointersHold mapAt formatHolds endHolds isInside isMap isLine isCodes isBlock draws sourceIsColour usesSource usesPattern usesMask isSource isPattern fieldsHold mixesHold usedMaps formatsHold endsHold startRefusal turned sourceStarted patternStarted codeAt drawingStarted signOf courseOf flowOf sourceBy destinationBy penStepped penWith penGone lineError lineMoved codePassed codesMoved columnPassed rowPoint rowSpot rowPassed blockMoved movedBy moved lineStep codeStep opposite turnedBy circledBy pointStepped spotStepped sourcePixel isForeground inkOf picked mixedPixel drawnBy drawn destinationPixel onZero isCompared fateOf isWithin columnOf onMap maskX maskY inMask isMove isFirst isLast isNulled begun positioned stepped after sizeHolds freshOf freshAnswer setupOf penOf withPen ranOf runRefusal runAnswer runMemory startRefusalOf mapsReduced pointersReduced reducedOf goesOn validOf stored startsBy started startedRefusal writeRefusal settledBy writeAnswer same written answers played allPlayed startFor live byMix bySize everyDrawing zeros insideOf withInside isFill modeOf fillHolds edgeOf rises placeX isOne insideAt crossed isOneBit
+unfolding numberOf byteOf partOf covers latchedBytes latched forth back residue circle field withField bitsOf startOf placeOf shiftOf neededOf byteAt pixelAt withPixel holdsOf conditionHolds tableBit logical gathered scattered worked arithmetic merged mixed touched taken takenLow takenTerm takenDestination mapReduced termReduced termsReduced compareReduced pointReduced destinationReduced spotReduced registers among listed placed mapTaken termsTaken inkTaken compareTaken pointTaken spotTaken noneStopped countersHold pointersHold mapAt formatHolds endHolds isInside isMap isLine isCodes isBlock draws sourceIsColour usesSource usesPattern usesMask isSource isPattern fieldsHold mixesHold usedMaps formatsHold endsHold startRefusal turned sourceStarted patternStarted codeAt drawingStarted signOf courseOf flowOf sourceBy destinationBy penStepped penWith penGone lineError lineMoved codePassed codesMoved columnPassed rowPoint rowSpot rowPassed blockMoved movedBy moved lineStep codeStep opposite turnedBy circledBy pointStepped spotStepped sourcePixel isForeground inkOf picked mixedPixel drawnBy drawn destinationPixel onZero isCompared fateOf isWithin columnOf onMap maskX maskY inMask isMove isFirst isLast nulledBy isNulled begun positioned stepped after sizeHolds freshOf freshAnswer setupOf penOf withPen ranOf runRefusal runAnswer runMemory startRefusalOf mapsReduced pointersReduced reducedOf goesOn validOf stored startsBy started startedRefusal writeRefusal settledBy writeAnswer same written answers played allPlayed startFor live byMix bySize everyDrawing zeros insideOf withInside isFill modeOf fillHolds edgeOf rises placeX isOne insideAt crossed isOneBit
 lively = refl

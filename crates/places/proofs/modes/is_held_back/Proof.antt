@@ -3,8 +3,8 @@ use mathlib.Core.Path.{sym, _∙_}
 use lib.Dec.{eqb}
 use mir.Syntax.{w32}
 use mir.ValLaws.{toZ-ofZ}
-use Rattle.places.specs.Places.{isMove, isFirst, isLast, onBoundary}
-use Rattle.places.specs.Inner.{nulledBy, heldBack}
+use Rattle.places.specs.Places.{isMove, isFirst, isLast, onBoundary, nulledBy}
+use Rattle.places.specs.Inner.{heldBack}
 use Rattle.places.proofs.ModeLaws.{none-left}
 use borrow.Author.Needs.{needs}
 use Rattle.places.proofs.modes.is_held_back.Statement.{statement}

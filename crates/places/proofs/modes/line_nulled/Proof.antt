@@ -5,8 +5,7 @@ use mir.Syntax.{w32}
 use mir.ValLaws.{toZ-ofZ}
 use lib.IntN.{ℤ}
 use Rattle.parts.specs.declared.drawing.Drawing.the-variants.{Line}
-use Rattle.places.specs.Places.{isFirst, isLast, onBoundary}
-use Rattle.places.specs.Inner.{nulledBy}
+use Rattle.places.specs.Places.{isFirst, isLast, onBoundary, nulledBy}
 use Rattle.places.proofs.ModeLaws.{first-null, last-null, boundary-null, no-null}
 use borrow.Author.Needs.{needs}
 use Rattle.places.proofs.modes.line_nulled.Statement.{statement}

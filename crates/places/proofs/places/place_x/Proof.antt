@@ -1,6 +1,8 @@
 -- `place_x` is the definition's choice, by the sign of the difference.
+use mathlib.Core.Path.{_∙_, sym}
 use mir.Syntax.{w16}
 use mir.ValLaws.{toZ-ofZ}
+use Rattle.numbers.proofs.Choices.{choose-true, choose-false}
 use Rattle.places.specs.Places.{placeX}
 use borrow.Author.Needs.{needs}
 use Rattle.places.proofs.places.place_x.Statement.{statement}
@@ -12,7 +14,7 @@ returns c =
     let a = c .before .before .before .before .before .before .args in
     let x = toZ-ofZ w16 (a .pen .destination .x) (search (needs, c .before .before .before .before .struct-told .given)) in
     let edge = toZ-ofZ w16 (a .setup .edge) (search (needs, c .before .before .struct-told2 .given .1 .1 .1 .1 .1 .1 .1 .1 .1 .1 .1 .1 .1)) in
-    rw (rw (x, edge) at (c .before .if1 .taken), edge)
+    edge ∙ sym (choose-true _ _ (rw (x, edge) at (c .before .if1 .taken)))
 
 returns-2 : tie.Need-returns-2
 unfolding placeX
@@ -20,7 +22,7 @@ returns-2 c =
     let a = c .before .before .before .before .before .before .args in
     let x = toZ-ofZ w16 (a .pen .destination .x) (search (needs, c .before .before .before .before .struct-told .given)) in
     let edge = toZ-ofZ w16 (a .setup .edge) (search (needs, c .before .before .struct-told2 .given .1 .1 .1 .1 .1 .1 .1 .1 .1 .1 .1 .1 .1)) in
-    rw (rw (x, edge) at (c .before .if1 .left), x)
+    x ∙ sym (choose-false _ _ (rw (x, edge) at (c .before .if1 .left)))
 
 pub place-x-spec : {M : Type 1} → statement M
 place-x-spec = tie.close (tie.spec returns returns-2)

@@ -4,8 +4,8 @@ use mathlib.Core.Bool.{false, not, _||_}
 use lib.IntN.{ℤ}
 use mir.Syntax.{w32}
 use mir.ValLaws.{toZ-ofZ}
-use Rattle.places.specs.Places.{onMap, isMove, isNulled}
-use Rattle.places.specs.Inner.{nulledBy, heldBack}
+use Rattle.places.specs.Places.{onMap, isMove, nulledBy, isNulled}
+use Rattle.places.specs.Inner.{heldBack}
 use Rattle.position.specs.Inner.{isLeftOut}
 use borrow.Author.Needs.{needs}
 use borrow.Author.Tests.{not-false}
