@@ -1,65 +1,61 @@
--- The laws of a register in a write: one that the write does not touch stays, since none of its bytes is covered, and any stays below its bound.
-use mathlib.Core.Path.{_≡_, refl, _∙_}
-use mathlib.Core.Bool.{Bool, true, false, true≢false, and-eq-true-iff}
-use mathlib.Core.Logic.{⊎-elim}
-use Prim.Native.Nat.{ℕ, _+_, _-_, _^_, _≤_, _<_}
-use native.Mathlib.Nat.{mod-lt, mod-eq-of-lt}
-use native.Mathlib.Omega.{arith}
-use lib.Dec.{leb, ltb}
-use lib.Pow.{pow-pos}
-use borrow.Author.Tests.{leb-true, ltb-true, le-leb, lt-leb, lt-ltb, le-ltb}
-use Rattle.numbers.specs.Bytes.{covers, latched}
+-- What was reduced stays reduced in a write, group by group, since each of its registers does.
+use mathlib.Core.Path.{_≡_}
+use mathlib.Core.Bool.{true}
+use Prim.Native.Nat.{ℕ, _+_}
 use Rattle.numbers.specs.declared.bytes.Write.{Write}
-use Rattle.numbers.proofs.ByteLaws.{latched-lt, latched-uncovered}
-use Rattle.numbers.proofs.Choices.{choose-either}
-use Rattle.numbers.proofs.Order.{lt-or-le}
-use Rattle.parts.specs.Latches.{touched, taken, takenLow}
+use Rattle.pixels.specs.declared.Map.{Map}
+use Rattle.parts.specs.declared.shapes.Terms.{Terms}
+use Rattle.parts.specs.declared.shapes.Point.{Point}
+use Rattle.parts.specs.declared.shapes.Spot.{Spot}
+use Rattle.parts.specs.declared.shapes.Colours.{Colours}
+use Rattle.parts.specs.declared.shapes.Figure.{Figure}
+use Rattle.parts.specs.declared.shapes.Pointers.{Pointers}
+use Rattle.parts.specs.declared.shapes.Registers.{Registers}
+use Rattle.parts.specs.Registers.{twelve}
+use Rattle.parts.specs.Latches.{mapLatched, termsLatched, compareLatched, pointLatched, spotLatched, coloursLatched, figureLatched, pointersLatched, registersLatched}
+use Rattle.parts.specs.Reduced.{mapReduced, termsReduced, coloursReduced, pointReduced, figureReduced, spotReduced, pointersReduced, registersReduced}
+use Rattle.parts.proofs.ReducedLaws.{both-kept, low-taken-reduced, term-taken-reduced, destination-taken-reduced}
 
--- ---- a register of one byte
+pub map-latched-reduced : (w : Write) (m : Map) → mapReduced m ≡ true → mapReduced (mapLatched w m) ≡ true
+unfolding mapReduced mapLatched
+map-latched-reduced w m =
+    both-kept (both-kept (low-taken-reduced 12 2 0x18 w (m .width)) (low-taken-reduced 12 2 0x1A w (m .height)))
+    (low-taken-reduced 4 1 0x1C w (m .format))
 
--- a write touches it exactly where it covers that byte
-pub touched-one : (at : ℕ) (w : Write) → touched 1 at w ≡ covers w at
-unfolding touched covers
-touched-one at w =
-    ⊎-elim (λ below. rw (le-ltb (w .offset) (at + 1) (omega arith), lt-leb (w .offset) at below))
-    (λ from.
-    rw (lt-ltb (w .offset) (at + 1) (omega arith), le-leb (w .offset) at from)
-    (⊎-elim (λ inside. rw (lt-ltb at (w .offset + w .length) inside, lt-ltb (at - w .offset) (w .length) (omega arith)))
-    (λ past. rw (le-ltb at (w .offset + w .length) past, le-ltb (at - w .offset) (w .length) (omega arith)))
-    (lt-or-le at (w .offset + w .length))))
-    (lt-or-le at (w .offset))
+terms-latched-reduced : (w : Write) (t : Terms) → termsReduced t ≡ true → termsReduced (termsLatched w t) ≡ true
+unfolding termsReduced termsLatched
+terms-latched-reduced w t =
+    both-kept (both-kept (term-taken-reduced 0x20 w (t .e)) (term-taken-reduced 0x24 w (t .k1))) (term-taken-reduced 0x28 w (t .k2))
 
--- ---- a register that the write does not touch
+colours-latched-reduced : (w : Write) (c : Colours) → coloursReduced c ≡ true → coloursReduced (coloursLatched w c) ≡ true
+unfolding coloursReduced coloursLatched compareLatched
+colours-latched-reduced w c = low-taken-reduced 3 1 0x4A w (c .compare .condition)
 
-module _ (n at : ℕ) (w : Write) (apart : touched n at w ≡ false) where
-  -- none of its bytes is covered
-  pub uncovered : (k : ℕ) → at ≤ k → k < at + n → covers w k ≡ false
-  unfolding touched covers
-  uncovered k from to = by (covers w k) refl
-    where
-      by : (t : Bool) → covers w k ≡ t → covers w k ≡ false
-      by false e = e
-      by true e =
-          let parts = and-eq-true-iff (leb (w .offset) k) (ltb (k - w .offset) (w .length)) .0 e in
-          let below : w .offset ≤ k = leb-true _ _ (parts .0) in
-          let inside : k - w .offset < w .length = ltb-true _ _ (parts .1) in
-          let before : ltb (w .offset) (at + n) ≡ true = lt-ltb (w .offset) (at + n) (omega arith) in
-          let after : ltb at (w .offset + w .length) ≡ true = lt-ltb at (w .offset + w .length) (omega arith) in
-          absurd (true≢false (simp (before, after) at apart))
+point-latched-reduced : (at : ℕ) (w : Write) (p : Point) → pointReduced p ≡ true → pointReduced (pointLatched (twelve at) (twelve (at + 2)) w p) ≡ true
+unfolding pointReduced pointLatched
+point-latched-reduced at w p = both-kept (low-taken-reduced 12 2 at w (p .x)) (low-taken-reduced 12 2 (at + 2) w (p .y))
 
-  pub latched-apart : (stored : ℕ) → stored < 256 ^ n → latched n at w stored ≡ stored
-  latched-apart stored h = latched-uncovered n at w stored uncovered ∙ mod-eq-of-lt h
+figure-latched-reduced : (w : Write) (f : Figure) → figureReduced f ≡ true → figureReduced (figureLatched w f) ≡ true
+unfolding figureReduced figureLatched
+figure-latched-reduced w f = both-kept (point-latched-reduced 0x60 w (f .dimensions)) (point-latched-reduced 0x6C w (f .origin))
 
-  pub low-untouched : (bits stored : ℕ) → takenLow bits n at w stored ≡ stored
-  unfolding takenLow
-  low-untouched bits stored = rw apart
+spot-latched-reduced : (w : Write) (s : Spot) → spotReduced s ≡ true → spotReduced (spotLatched w s) ≡ true
+unfolding spotReduced spotLatched
+spot-latched-reduced w s = both-kept (destination-taken-reduced 0x78 w (s .x)) (destination-taken-reduced 0x7A w (s .y))
 
--- ---- a register after any write
+pointers-latched-reduced : (w : Write) (p : Pointers) → pointersReduced p ≡ true → pointersReduced (pointersLatched w p) ≡ true
+unfolding pointersReduced pointersLatched
+pointers-latched-reduced w p =
+    both-kept (both-kept (point-latched-reduced 0x70 w (p .source)) (point-latched-reduced 0x74 w (p .pattern)))
+    (spot-latched-reduced w (p .destination))
 
-pub taken-lt : (n at : ℕ) (w : Write) (stored : ℕ) → stored < 256 ^ n → taken n at w stored < 256 ^ n
-unfolding taken
-taken-lt n at w stored h = choose-either (λ (x : ℕ). x < 256 ^ n) (touched n at w) (latched-lt n at w stored) h
-
-pub low-taken-lt : (bits n at : ℕ) (w : Write) (stored : ℕ) → stored < 2 ^ bits → takenLow bits n at w stored < 2 ^ bits
-unfolding takenLow
-low-taken-lt bits n at w stored h = choose-either (λ (x : ℕ). x < 2 ^ bits) (touched n at w) (mod-lt _ (pow-pos bits)) h
+pub registers-latched-reduced : (w : Write) (r : Registers) → registersReduced r ≡ true → registersReduced (registersLatched w r) ≡ true
+unfolding registersReduced registersLatched
+registers-latched-reduced w r =
+    both-kept
+    (both-kept
+    (both-kept
+    (both-kept (low-taken-reduced 2 1 0x12 w (r .index)) (terms-latched-reduced w (r .terms)))
+    (colours-latched-reduced w (r .colours)))
+    (figure-latched-reduced w (r .figure)))
+    (pointers-latched-reduced w (r .pointers))

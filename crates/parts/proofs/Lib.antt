@@ -1,7 +1,7 @@
 pub mod Every
-pub mod LatchLaws
+pub mod TakeLaws
 pub mod ReducedLaws
-pub mod ShapeLaws
+pub mod LatchLaws
 pub mod RegisterLaws
 pub mod RefusalLaws
 pub mod SignedFields

@@ -6,15 +6,15 @@ use native.Mathlib.Nat.{mod-lt, mod-eq-of-lt, add-mod-right}
 use native.Mathlib.Omega.{arith}
 use lib.Dec.{lit<, lit≤, leb, ltb}
 use lib.IntN.{ℤ, pos, negsuc}
-use lib.Signed.{leZ, ltZ}
 use borrow.Author.Tests.{leb-true, ltb-true, le-leb, lt-ltb}
 use Rattle.numbers.specs.Circles.{forth, residue, circle}
 use Rattle.numbers.specs.declared.bytes.Write.{Write}
 use Rattle.numbers.proofs.CircleLaws.{sub-cases}
 use Rattle.numbers.proofs.Choices.{choose-either}
-use Rattle.parts.specs.Latches.{touched, takenLow, takenTerm, takenDestination}
-use Rattle.parts.specs.Reduced.{termReduced, destinationReduced}
-use Rattle.parts.proofs.LatchLaws.{low-taken-lt}
+use Rattle.parts.specs.Registers.{Circle, lowBits, term, coordinate}
+use Rattle.parts.specs.Takes.{touched, taken, takenOnto}
+use Rattle.parts.specs.Reduced.{liesBy, termReduced, destinationReduced}
+use Rattle.parts.proofs.TakeLaws.{low-taken-lt}
 
 -- what is kept of each part of a test is kept of both
 pub both-kept : {a b c d : Bool} → (a ≡ true → c ≡ true) → (b ≡ true → d ≡ true) → a && b ≡ true → c && d ≡ true
@@ -24,27 +24,23 @@ both-kept {a} {b} {c} {d} f g e =
 
 -- ---- the low bits
 
-pub low-taken-reduced : (bits n at : ℕ) (w : Write) (stored : ℕ) → ltb stored (2 ^ bits) ≡ true → ltb (takenLow bits n at w stored) (2 ^ bits) ≡ true
+pub low-taken-reduced : (bits n at : ℕ) (w : Write) (stored : ℕ) → ltb stored (2 ^ bits) ≡ true → ltb (taken (lowBits bits n at) w stored) (2 ^ bits) ≡ true
 low-taken-reduced bits n at w stored e = lt-ltb _ _ (low-taken-lt bits n at w stored (ltb-true _ _ e))
 
 -- ---- a place on a circle of this size, from -low on
 
--- whether z lies between the circle's ends
-abbrev pub within : ℕ → ℕ → ℤ → Bool
-within low size z = leZ (negsuc (low - 1)) z && ltZ z (pos (size - low))
-
 module _ (low size : ℕ) (some : 0 < low) (fits : low ≤ size) where
-  pub circle-within : (z : ℤ) → within low size (circle low size z) ≡ true
+  pub circle-within : (z : ℤ) → liesBy (Circle low size) (circle low size z) ≡ true
   unfolding circle forth
   circle-within z =
       let x : ℕ = (residue size z + low) % size in
       let h : x < size = mod-lt (residue size z + low) (omega arith) in
-      sub-cases (λ (y : ℤ). within low size y ≡ true) x low
+      sub-cases (λ (y : ℤ). liesBy (Circle low size) y ≡ true) x low
       (λ less. rw (le-leb (low - suc x) (low - 1) (omega arith)))
       (λ more. lt-ltb (x - low) (size - low) (omega arith))
 
   -- a number between the ends stands where it is
-  pub circle-fixed : (z : ℤ) → within low size z ≡ true → circle low size z ≡ z
+  pub circle-fixed : (z : ℤ) → liesBy (Circle low size) z ≡ true → circle low size z ≡ z
   unfolding circle forth residue
   circle-fixed (pos n) e =
       let h : n < size - low = ltb-true n (size - low) e in
@@ -70,8 +66,8 @@ pub term-circle-fixed : (z : ℤ) → termReduced z ≡ true → circle 8192 163
 unfolding termReduced
 term-circle-fixed z e = circle-fixed 8192 16384 (lit< tt) (lit≤ tt) z e
 
-pub term-taken-reduced : (at : ℕ) (w : Write) (z : ℤ) → termReduced z ≡ true → termReduced (takenTerm at w z) ≡ true
-unfolding takenTerm
+pub term-taken-reduced : (at : ℕ) (w : Write) (z : ℤ) → termReduced z ≡ true → termReduced (takenOnto (term at) w z) ≡ true
+unfolding takenOnto
 term-taken-reduced at w z e = choose-either (λ (y : ℤ). termReduced y ≡ true) (touched 4 at w) (term-circle-reduced _) e
 
 pub destination-circle-reduced : (z : ℤ) → destinationReduced (circle 2048 8192 z) ≡ true
@@ -82,6 +78,6 @@ pub destination-circle-fixed : (z : ℤ) → destinationReduced z ≡ true → c
 unfolding destinationReduced
 destination-circle-fixed z e = circle-fixed 2048 8192 (lit< tt) (lit≤ tt) z e
 
-pub destination-taken-reduced : (at : ℕ) (w : Write) (z : ℤ) → destinationReduced z ≡ true → destinationReduced (takenDestination at w z) ≡ true
-unfolding takenDestination
+pub destination-taken-reduced : (at : ℕ) (w : Write) (z : ℤ) → destinationReduced z ≡ true → destinationReduced (takenOnto (coordinate at) w z) ≡ true
+unfolding takenOnto
 destination-taken-reduced at w z e = choose-either (λ (y : ℤ). destinationReduced y ≡ true) (touched 2 at w) (destination-circle-reduced _) e

@@ -1,6 +1,6 @@
 pub mod Refusals
 pub mod Drawings
 pub mod Registers
+pub mod Takes
 pub mod Latches
-pub mod Shapes
 pub mod Reduced

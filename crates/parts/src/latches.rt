@@ -1,89 +1,196 @@
-// What a register of each kind takes from a write: where the write touches it, the bytes that it covers, reduced; elsewhere the
-// register stays as it is, reduced or not.
+// What each group of registers is after a write, register by register.
 
-use numbers::bytes;
+use crate::shapes::Colours;
+use crate::shapes::Compare;
+use crate::shapes::Figure;
+use crate::shapes::Ink;
+use crate::shapes::Point;
+use crate::shapes::Pointers;
+use crate::shapes::Registers;
+use crate::shapes::Spot;
+use crate::shapes::Terms;
+use crate::takes::take_bits;
+use crate::takes::take_byte;
+use crate::takes::take_destination;
+use crate::takes::take_term;
+use crate::takes::take_twelve_bits;
+use crate::takes::take_word;
 use numbers::bytes::Write;
-use numbers::circles;
+use pixels::Map;
 ghost use mathlib.Core.Path.{_≡_};
-ghost use Prim.Native.Nat.{_≤_};
-ghost use Rattle.parts.specs.Latches.{touched, taken, takenLow, takenTerm, takenDestination};
+ghost use Prim.Native.Nat.{_+_, _≤_};
+ghost use Rattle.parts.specs.Registers.{whole, twelve};
+ghost use Rattle.parts.specs.Latches as defined;
 
-// Whether a write, of at least one byte, covers some byte of a register of so many bytes at offset `at`.
-pub fn touches(bytes: u32, at: u8, w: Write) -> bool
-    ensures { λ r. ⌜ r ≡ touched bytes at w ⌝ }
+const MAP_INDEX: u8 = 0x12;
+
+const MAP_BASE: u8 = 0x14;
+
+const MAP_WIDTH: u8 = 0x18;
+
+const MAP_HEIGHT: u8 = 0x1A;
+
+const MAP_FORMAT: u8 = 0x1C;
+
+const E: u8 = 0x20;
+
+const K1: u8 = 0x24;
+
+const K2: u8 = 0x28;
+
+const STEPS: u8 = 0x2C;
+
+const FOREGROUND_MIX: u8 = 0x48;
+
+const BACKGROUND_MIX: u8 = 0x49;
+
+const COMPARE_CONDITION: u8 = 0x4A;
+
+const COMPARE_VALUE: u8 = 0x4C;
+
+const PLANES: u8 = 0x50;
+
+const CARRIES: u8 = 0x54;
+
+const FOREGROUND_COLOUR: u8 = 0x58;
+
+const BACKGROUND_COLOUR: u8 = 0x5C;
+
+const DIMENSIONS: u8 = 0x60;
+
+const ORIGIN: u8 = 0x6C;
+
+const SOURCE: u8 = 0x70;
+
+const PATTERN: u8 = 0x74;
+
+const DESTINATION_X: u8 = 0x78;
+
+const DESTINATION_Y: u8 = 0x7A;
+
+const OPERATIONS: u8 = 0x7C;
+
+// The map that the map index names, after the write.
+pub fn latch_map(map: Map, w: Write) -> Map
+    ensures { λ r. ⌜ r ≡ defined.mapLatched w map ⌝ }
 {
-    let offset = w.offset as u64;
-    let length = w.length as u64;
-    if offset < at as u64 + bytes as u64 {
-        (at as u64) < offset + length
-    } else {
-        false
+    Map {
+        base: take_word(map.base, MAP_BASE, w),
+        width: take_twelve_bits(map.width, MAP_WIDTH, w),
+        height: take_twelve_bits(map.height, MAP_HEIGHT, w),
+        format: take_bits(4, map.format, MAP_FORMAT, w),
     }
 }
 
-// A register of one byte, after the write.
-pub fn take_byte(stored: u8, at: u8, w: Write) -> u8
-    ensures { λ r. ⌜ r ≡ taken 1 at w stored ⌝ }
+// E, K1 and K2.
+fn latch_terms(terms: Terms, w: Write) -> Terms
+    ensures { λ r. ⌜ r ≡ defined.termsLatched w terms ⌝ }
 {
-    if touches(1, at, w) {
-        bytes::latch1(stored, at, w)
-    } else {
-        stored
+    Terms {
+        e: take_term(terms.e, E, w),
+        k1: take_term(terms.k1, K1, w),
+        k2: take_term(terms.k2, K2, w),
     }
 }
 
-// A register of one byte that is reduced to so many bits.
-pub fn take_bits(bits: u32, stored: u8, at: u8, w: Write) -> u8
-    requires { ⌜ bits ≤ 8 ⌝ }
-    ensures { λ r. ⌜ r ≡ takenLow bits 1 at w stored ⌝ }
+// A mix and its colour, each at its offset.
+fn latch_ink(ink: Ink, mix_at: u8, colour_at: u8, w: Write) -> Ink
+    ensures { λ r. ⌜ r ≡ defined.inkLatched (whole 1 «mix_at») (whole 4 «colour_at») w ink ⌝ }
 {
-    if touches(1, at, w) {
-        bytes::low_bits(bits, bytes::latch1(stored, at, w))
-    } else {
-        stored
+    Ink {
+        mix: take_byte(ink.mix, mix_at, w),
+        colour: take_word(ink.colour, colour_at, w),
     }
 }
 
-// A register of two bytes that is reduced to 12 bits.
-pub fn take_twelve_bits(stored: u16, at: u8, w: Write) -> u16
-    ensures { λ r. ⌜ r ≡ takenLow 12 2 at w stored ⌝ }
+// The compare condition and its value.
+fn latch_compare(compare: Compare, w: Write) -> Compare
+    ensures { λ r. ⌜ r ≡ defined.compareLatched w compare ⌝ }
 {
-    if touches(2, at, w) {
-        bytes::twelve_bits(bytes::latch2(stored, at, w) as u32)
-    } else {
-        stored
+    Compare {
+        condition: take_bits(3, compare.condition, COMPARE_CONDITION, w),
+        value: take_word(compare.value, COMPARE_VALUE, w),
     }
 }
 
-// A register of four bytes.
-pub fn take_word(stored: u32, at: u8, w: Write) -> u32
-    ensures { λ r. ⌜ r ≡ taken 4 at w stored ⌝ }
+// Two numbers of 12 bits, the first at `at` and the second two bytes on.
+fn latch_point(point: Point, at: u8, w: Write) -> Point
+    requires { ⌜ at ≤ 125 ⌝ }
+    ensures { λ r. ⌜ r ≡ defined.pointLatched (twelve at) (twelve (at + 2)) w point ⌝ }
 {
-    if touches(4, at, w) {
-        bytes::latch4(stored, at, w)
-    } else {
-        stored
+    Point {
+        x: take_twelve_bits(point.x, at, w),
+        y: take_twelve_bits(point.y, at + 2, w),
     }
 }
 
-// E, K1 or K2: a register of four bytes that is reduced to -8,192 to 8,191.
-pub fn take_term(stored: i32, at: u8, w: Write) -> i32
-    ensures { λ r. ⌜ r ≡ takenTerm at w stored ⌝ }
+// The destination pointer.
+fn latch_spot(spot: Spot, w: Write) -> Spot
+    ensures { λ r. ⌜ r ≡ defined.spotLatched w spot ⌝ }
 {
-    if touches(4, at, w) {
-        circles::term(bytes::latch4(circles::word(stored), at, w))
-    } else {
-        stored
+    Spot {
+        x: take_destination(spot.x, DESTINATION_X, w),
+        y: take_destination(spot.y, DESTINATION_Y, w),
     }
 }
 
-// A destination pointer: a register of two bytes that is reduced to -2,048 to 6,143.
-pub fn take_destination(stored: i16, at: u8, w: Write) -> i16
-    ensures { λ r. ⌜ r ≡ takenDestination at w stored ⌝ }
+// Mixes, colours, the comparison and the masks.
+fn latch_colours(colours: Colours, w: Write) -> Colours
+    ensures { λ r. ⌜ r ≡ defined.coloursLatched w colours ⌝ }
 {
-    if touches(2, at, w) {
-        circles::destination(bytes::latch2(circles::half_word(stored), at, w) as u32)
-    } else {
-        stored
+    let foreground = colours.foreground;
+    let background = colours.background;
+    let compare = colours.compare;
+    Colours {
+        foreground: latch_ink(foreground, FOREGROUND_MIX, FOREGROUND_COLOUR, w),
+        background: latch_ink(background, BACKGROUND_MIX, BACKGROUND_COLOUR, w),
+        compare: latch_compare(compare, w),
+        planes: take_word(colours.planes, PLANES, w),
+        carries: take_word(colours.carries, CARRIES, w),
+    }
+}
+
+// What is drawn.
+fn latch_figure(figure: Figure, w: Write) -> Figure
+    ensures { λ r. ⌜ r ≡ defined.figureLatched w figure ⌝ }
+{
+    let dimensions = figure.dimensions;
+    let origin = figure.origin;
+    Figure {
+        operations: take_word(figure.operations, OPERATIONS, w),
+        steps: take_word(figure.steps, STEPS, w),
+        dimensions: latch_point(dimensions, DIMENSIONS, w),
+        origin: latch_point(origin, ORIGIN, w),
+    }
+}
+
+// The pointers.
+fn latch_pointers(pointers: Pointers, w: Write) -> Pointers
+    ensures { λ r. ⌜ r ≡ defined.pointersLatched w pointers ⌝ }
+{
+    let source = pointers.source;
+    let pattern = pointers.pattern;
+    let destination = pointers.destination;
+    Pointers {
+        source: latch_point(source, SOURCE, w),
+        pattern: latch_point(pattern, PATTERN, w),
+        destination: latch_spot(destination, w),
+    }
+}
+
+// Every register but those of the maps, after the write.
+pub fn latch_registers(registers: Registers, w: Write) -> Registers
+    ensures { λ r. ⌜ r ≡ defined.registersLatched w registers ⌝ }
+{
+    let terms = registers.terms;
+    let colours = registers.colours;
+    let figure = registers.figure;
+    let pointers = registers.pointers;
+    Registers {
+        index: take_bits(2, registers.index, MAP_INDEX, w),
+        terms: latch_terms(terms, w),
+        colours: latch_colours(colours, w),
+        figure: latch_figure(figure, w),
+        pointers: latch_pointers(pointers, w),
     }
 }

@@ -1,6 +1,5 @@
 // The register bank: which reads and writes are placed, and which bytes are listed.
 
-use crate::reduced::both;
 ghost use mathlib.Core.Path.{_≡_};
 ghost use Prim.Native.Nat.{_-_, _/_, _%_, _^_, _≤_, _<_};
 ghost use lib.Dec.{eqb};
@@ -21,8 +20,8 @@ pub fn is_placed(offset: u32, length: u32) -> bool
 {
     match length {
         1 => offset <= LAST,
-        2 => both(offset % 2 == 0, offset <= LAST),
-        4 => both(offset % 4 == 0, offset <= LAST),
+        2 => (offset % 2 == 0) & (offset <= LAST),
+        4 => (offset % 4 == 0) & (offset <= LAST),
         _ => false,
     }
 }

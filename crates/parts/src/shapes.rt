@@ -1,11 +1,4 @@
-// The parts of the record, and what each takes from a write, register by register.
-
-use crate::latches;
-use numbers::bytes::Write;
-use pixels::Map;
-ghost use mathlib.Core.Path.{_≡_};
-ghost use Prim.Native.Nat.{_≤_};
-ghost use Rattle.parts.specs.Shapes.{mapTaken, termsTaken, inkTaken, compareTaken, pointTaken, spotTaken};
+// The registers in groups: what changes together, or is asked together, stands together.
 
 // E, K1 and K2.
 pub struct Terms {
@@ -38,88 +31,35 @@ pub struct Spot {
     pub y: i16,
 }
 
-const MAP_BASE: u8 = 0x14;
-
-const MAP_WIDTH: u8 = 0x18;
-
-const MAP_HEIGHT: u8 = 0x1A;
-
-const MAP_FORMAT: u8 = 0x1C;
-
-// The map that the map index names, after the write.
-pub fn latch_map(map: Map, w: Write) -> Map
-    ensures { λ r. ⌜ r ≡ mapTaken w map ⌝ }
-{
-    Map {
-        base: latches::take_word(map.base, MAP_BASE, w),
-        width: latches::take_twelve_bits(map.width, MAP_WIDTH, w),
-        height: latches::take_twelve_bits(map.height, MAP_HEIGHT, w),
-        format: latches::take_bits(4, map.format, MAP_FORMAT, w),
-    }
+// What a pixel is worked from: mixes, colours, the comparison, the plane mask and the carry mask.
+pub struct Colours {
+    pub foreground: Ink,
+    pub background: Ink,
+    pub compare: Compare,
+    pub planes: u32,
+    pub carries: u32,
 }
 
-const E: u8 = 0x20;
-
-const K1: u8 = 0x24;
-
-const K2: u8 = 0x28;
-
-// E, K1 and K2 after the write.
-pub fn latch_terms(terms: Terms, w: Write) -> Terms
-    ensures { λ r. ⌜ r ≡ termsTaken w terms ⌝ }
-{
-    Terms {
-        e: latches::take_term(terms.e, E, w),
-        k1: latches::take_term(terms.k1, K1, w),
-        k2: latches::take_term(terms.k2, K2, w),
-    }
+// What is drawn: the pixel operations, the direction steps, the dimensions, and where the mask lies.
+pub struct Figure {
+    pub operations: u32,
+    pub steps: u32,
+    pub dimensions: Point,
+    pub origin: Point,
 }
 
-// A mix and its colour after the write, each at its offset.
-pub fn latch_ink(ink: Ink, mix_at: u8, colour_at: u8, w: Write) -> Ink
-    ensures { λ r. ⌜ r ≡ inkTaken «mix_at» «colour_at» w ink ⌝ }
-{
-    Ink {
-        mix: latches::take_byte(ink.mix, mix_at, w),
-        colour: latches::take_word(ink.colour, colour_at, w),
-    }
+// The pointers, which a drawing moves.
+pub struct Pointers {
+    pub source: Point,
+    pub pattern: Point,
+    pub destination: Spot,
 }
 
-const COMPARE_CONDITION: u8 = 0x4A;
-
-const COMPARE_VALUE: u8 = 0x4C;
-
-// The compare condition and its value after the write.
-pub fn latch_compare(compare: Compare, w: Write) -> Compare
-    ensures { λ r. ⌜ r ≡ compareTaken w compare ⌝ }
-{
-    Compare {
-        condition: latches::take_bits(3, compare.condition, COMPARE_CONDITION, w),
-        value: latches::take_word(compare.value, COMPARE_VALUE, w),
-    }
-}
-
-// Two numbers of 12 bits after the write, the first at `at` and the second two bytes on.
-pub fn latch_point(point: Point, at: u8, w: Write) -> Point
-    requires { ⌜ at ≤ 125 ⌝ }
-    ensures { λ r. ⌜ r ≡ pointTaken at w point ⌝ }
-{
-    Point {
-        x: latches::take_twelve_bits(point.x, at, w),
-        y: latches::take_twelve_bits(point.y, at + 2, w),
-    }
-}
-
-const DESTINATION_X: u8 = 0x78;
-
-const DESTINATION_Y: u8 = 0x7A;
-
-// The destination pointer after the write.
-pub fn latch_spot(spot: Spot, w: Write) -> Spot
-    ensures { λ r. ⌜ r ≡ spotTaken w spot ⌝ }
-{
-    Spot {
-        x: latches::take_destination(spot.x, DESTINATION_X, w),
-        y: latches::take_destination(spot.y, DESTINATION_Y, w),
-    }
+// Every register but those of the maps.
+pub struct Registers {
+    pub index: u8,
+    pub terms: Terms,
+    pub colours: Colours,
+    pub figure: Figure,
+    pub pointers: Pointers,
 }

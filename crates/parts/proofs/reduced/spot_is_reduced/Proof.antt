@@ -1,8 +1,8 @@
 -- `spot_is_reduced` is the definition: one test for each field, each read as it was stored.
 use mir.Syntax.{w16}
 use mir.ValLaws.{toZ-ofZ}
-use borrow.Author.Needs.{needs}
 use Rattle.parts.specs.Reduced.{spotReduced}
+use borrow.Author.Needs.{needs}
 use Rattle.parts.proofs.reduced.spot_is_reduced.Statement.{statement}
 use Rattle.parts.proofs.reduced.spot_is_reduced.Tie as tie
 
@@ -12,26 +12,17 @@ destination-is-reduced-requires c κs = search needs
 destination-is-reduced-requires-2 : tie.Need-destination-is-reduced-requires-2
 destination-is-reduced-requires-2 c κs = search needs
 
-both-requires : tie.Need-both-requires
-both-requires c κs = search needs
-
 returns : tie.Need-returns
 unfolding spotReduced
 returns c =
-    let spot = c .before .before .before .before .before .args .spot in
+    let spot = c .before .before .before .before .args .spot in
     rw (
-      c .both .ensures,
-      c .before .destination-is-reduced2 .ensures,
-      c .before .before .before .destination-is-reduced .ensures,
+      c .destination-is-reduced2 .ensures,
+      c .before .before .destination-is-reduced .ensures,
       toZ-ofZ w16 (spot .x) (search needs),
       toZ-ofZ w16 (spot .y) (search needs),
     )
 
 pub spot-is-reduced-spec : {M : Type 1} → statement M
 spot-is-reduced-spec =
-    tie.close
-    (tie.spec
-    destination-is-reduced-requires
-    destination-is-reduced-requires-2
-    both-requires
-    returns)
+    tie.close (tie.spec destination-is-reduced-requires destination-is-reduced-requires-2 returns)

@@ -1,17 +1,13 @@
--- `term_is_reduced` is the definition: `both` is its conjunction, and a signed parameter is read as it was passed.
+-- `term_is_reduced` is the definition: a signed parameter is read as it was passed.
 use mir.Syntax.{w32}
 use mir.ValLaws.{toZ-ofZ}
-use borrow.Author.Needs.{needs}
 use Rattle.parts.specs.Reduced.{termReduced}
 use Rattle.parts.proofs.reduced.term_is_reduced.Statement.{statement}
 use Rattle.parts.proofs.reduced.term_is_reduced.Tie as tie
 
-both-requires : tie.Need-both-requires
-both-requires c κs = search needs
-
 returns : tie.Need-returns
 unfolding termReduced
-returns c = rw (c .both .ensures, toZ-ofZ w32 (c .before .args .z) (c .before .fits .z))
+returns c = rw (toZ-ofZ w32 (c .args .z) (c .fits .z))
 
 pub term-is-reduced-spec : {M : Type 1} → statement M
-term-is-reduced-spec = tie.close (tie.spec both-requires returns)
+term-is-reduced-spec = tie.close (tie.spec returns)

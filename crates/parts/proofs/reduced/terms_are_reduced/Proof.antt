@@ -1,8 +1,8 @@
 -- `terms_are_reduced` is the definition: one test for each field, each read as it was stored.
 use mir.Syntax.{w32}
 use mir.ValLaws.{toZ-ofZ}
-use borrow.Author.Needs.{needs}
 use Rattle.parts.specs.Reduced.{termsReduced}
+use borrow.Author.Needs.{needs}
 use Rattle.parts.proofs.reduced.terms_are_reduced.Statement.{statement}
 use Rattle.parts.proofs.reduced.terms_are_reduced.Tie as tie
 
@@ -12,25 +12,17 @@ term-is-reduced-requires c κs = search needs
 term-is-reduced-requires-2 : tie.Need-term-is-reduced-requires-2
 term-is-reduced-requires-2 c κs = search needs
 
-both-requires : tie.Need-both-requires
-both-requires c κs = search needs
-
 term-is-reduced-requires-3 : tie.Need-term-is-reduced-requires-3
 term-is-reduced-requires-3 c κs = search needs
-
-both-requires-2 : tie.Need-both-requires-2
-both-requires-2 c κs = search needs
 
 returns : tie.Need-returns
 unfolding termsReduced
 returns c =
-    let terms = c .before .before .before .before .before .before .before .before .args .terms in
+    let terms = c .before .before .before .before .before .before .args .terms in
     rw (
-      c .both2 .ensures,
-      c .before .term-is-reduced3 .ensures,
-      c .before .before .before .both .ensures,
-      c .before .before .before .before .term-is-reduced2 .ensures,
-      c .before .before .before .before .before .before .term-is-reduced .ensures,
+      c .term-is-reduced3 .ensures,
+      c .before .before .term-is-reduced2 .ensures,
+      c .before .before .before .before .term-is-reduced .ensures,
       toZ-ofZ w32 (terms .e) (search needs),
       toZ-ofZ w32 (terms .k1) (search needs),
       toZ-ofZ w32 (terms .k2) (search needs),
@@ -42,7 +34,5 @@ terms-are-reduced-spec =
     (tie.spec
     term-is-reduced-requires
     term-is-reduced-requires-2
-    both-requires
     term-is-reduced-requires-3
-    both-requires-2
     returns)

@@ -1,16 +1,9 @@
 -- `is_placed` is the definition at each length: 1, 2 and 4 by their own test, and no other.
 use native.Mathlib.Nat.{mod-one}
 use borrow.Author.Tests.{ne-eqb}
-use borrow.Author.Needs.{needs}
 use Rattle.parts.specs.Registers.{placed}
 use Rattle.parts.proofs.registers.is_placed.Statement.{statement}
 use Rattle.parts.proofs.registers.is_placed.Tie as tie
-
-both-requires : tie.Need-both-requires
-both-requires c κs = search needs
-
-both-requires-2 : tie.Need-both-requires-2
-both-requires-2 c κs = search needs
 
 returns : tie.Need-returns
 unfolding placed
@@ -18,11 +11,11 @@ returns c = rw (c .match .keys1, mod-one)
 
 returns-2 : tie.Need-returns-2
 unfolding placed
-returns-2 c = rw (c .before .match .keys2, c .both .ensures)
+returns-2 c = rw (c .match .keys2)
 
 returns-3 : tie.Need-returns-3
 unfolding placed
-returns-3 c = rw (c .before .match .keys3, c .both2 .ensures)
+returns-3 c = rw (c .match .keys3)
 
 returns-4 : tie.Need-returns-4
 unfolding placed
@@ -31,4 +24,4 @@ returns-4 c =
 
 pub is-placed-spec : {M : Type 1} → statement M
 is-placed-spec =
-    tie.close (tie.spec both-requires both-requires-2 returns returns-2 returns-3 returns-4)
+    tie.close (tie.spec returns returns-2 returns-3 returns-4)

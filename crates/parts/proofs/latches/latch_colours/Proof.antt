@@ -1,0 +1,43 @@
+-- `latch_colours` is the colours after the write: each field is its registers'.
+use Rattle.parts.specs.Latches.{coloursLatched}
+use borrow.Author.Needs.{needs}
+use Rattle.parts.proofs.latches.latch_colours.Statement.{statement}
+use Rattle.parts.proofs.latches.latch_colours.Tie as tie
+
+latch-ink-requires : tie.Need-latch-ink-requires
+latch-ink-requires c κs = search needs
+
+latch-ink-requires-2 : tie.Need-latch-ink-requires-2
+latch-ink-requires-2 c κs = search needs
+
+latch-compare-requires : tie.Need-latch-compare-requires
+latch-compare-requires c κs = search needs
+
+take-word-requires : tie.Need-take-word-requires
+take-word-requires c κs = search needs
+
+take-word-requires-2 : tie.Need-take-word-requires-2
+take-word-requires-2 c κs = search needs
+
+returns : tie.Need-returns
+unfolding coloursLatched
+returns c =
+    let inks = c .before .before .before in
+    λ i. record {
+      foreground = inks .before .latch-ink .ensures i;
+      background = inks .latch-ink2 .ensures i;
+      compare = c .before .before .latch-compare .ensures i;
+      planes = c .before .take-word .ensures i;
+      carries = c .take-word2 .ensures i;
+    }
+
+pub latch-colours-spec : {M : Type 1} → statement M
+latch-colours-spec =
+    tie.close
+    (tie.spec
+    latch-ink-requires
+    latch-ink-requires-2
+    latch-compare-requires
+    take-word-requires
+    take-word-requires-2
+    returns)

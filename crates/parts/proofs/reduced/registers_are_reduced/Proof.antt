@@ -1,0 +1,37 @@
+-- `registers_are_reduced` is the definition: one test for each group.
+use Rattle.parts.specs.Reduced.{registersReduced}
+use borrow.Author.Needs.{needs}
+use Rattle.parts.proofs.reduced.registers_are_reduced.Statement.{statement}
+use Rattle.parts.proofs.reduced.registers_are_reduced.Tie as tie
+
+terms-are-reduced-requires : tie.Need-terms-are-reduced-requires
+terms-are-reduced-requires c κs = search needs
+
+colours-are-reduced-requires : tie.Need-colours-are-reduced-requires
+colours-are-reduced-requires c κs = search needs
+
+figure-is-reduced-requires : tie.Need-figure-is-reduced-requires
+figure-is-reduced-requires c κs = search needs
+
+pointers-are-reduced-requires : tie.Need-pointers-are-reduced-requires
+pointers-are-reduced-requires c κs = search needs
+
+returns : tie.Need-returns
+unfolding registersReduced
+returns c =
+    rw (
+      c .pointers-are-reduced .ensures,
+      c .before .figure-is-reduced .ensures,
+      c .before .before .colours-are-reduced .ensures,
+      c .before .before .before .terms-are-reduced .ensures,
+    )
+
+pub registers-are-reduced-spec : {M : Type 1} → statement M
+registers-are-reduced-spec =
+    tie.close
+    (tie.spec
+    terms-are-reduced-requires
+    colours-are-reduced-requires
+    figure-is-reduced-requires
+    pointers-are-reduced-requires
+    returns)

@@ -1,0 +1,52 @@
+-- `take_destination` chooses as the definition does, between the circle's place of the latched bytes and what is stored.
+use mathlib.Core.Path.{sym, _∙_}
+use mir.Syntax.{w16}
+use mir.ValLaws.{toZ-ofZ}
+use borrow.Author.Needs.{needs}
+use Rattle.parts.specs.Takes.{takenOnto}
+use Rattle.parts.proofs.takes.take_destination.Statement.{statement}
+use Rattle.parts.proofs.takes.take_destination.Tie as tie
+
+touches-requires : tie.Need-touches-requires
+touches-requires c κs = search needs
+
+half-word-requires : tie.Need-half-word-requires
+half-word-requires c κs = search needs
+
+latch2-requires : tie.Need-latch2-requires
+latch2-requires c κs = search needs
+
+cast-destination : tie.Need-cast-destination
+cast-destination c = search needs
+
+destination-requires : tie.Need-destination-requires
+destination-requires c κs = search needs
+
+returns : tie.Need-returns
+unfolding takenOnto
+returns c =
+    simp (sym (c .before .before .before .before .touches .ensures) ∙ c .before .before .before .if1 .taken)
+    (rw (
+      toZ-ofZ w16 (c .destination .result) (record { sfits = c .destination .ok }),
+      c .destination .ensures,
+      c .before .latch2 .ensures,
+      c .before .before .half-word .ensures,
+      toZ-ofZ w16 (c .before .before .before .before .before .args .stored) (c .before .before .before .before .before .fits .stored),
+    ))
+
+returns-2 : tie.Need-returns-2
+unfolding takenOnto
+returns-2 c =
+    simp (sym (c .before .touches .ensures) ∙ c .if1 .left) (toZ-ofZ w16 (c .before .before .args .stored) (c .before .before .fits .stored))
+
+pub take-destination-spec : {M : Type 1} → statement M
+take-destination-spec =
+    tie.close
+    (tie.spec
+    touches-requires
+    half-word-requires
+    latch2-requires
+    cast-destination
+    destination-requires
+    returns
+    returns-2)
