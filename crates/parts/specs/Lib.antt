@@ -1,6 +1,7 @@
 pub mod Refusals
 pub mod Drawings
 pub mod Registers
+pub mod Fresh
 pub mod Takes
 pub mod Latches
 pub mod Reduced

@@ -2,37 +2,34 @@
 use mathlib.Core.Path.{_≡_, refl}
 use mathlib.Core.Bool.{true, false, and-false}
 use mathlib.Core.Logic.{⊎-elim}
-use Prim.Native.Nat.{ℕ, zero, suc, _+_, _%_, _<_}
+use Prim.Native.Nat.{ℕ, zero, suc, _+_, _<_}
 use native.Mathlib.Nat.{suc-add, add-suc, zero-add, le-of-suc-le-suc, eq-or-lt-of-le}
 use native.Mathlib.Numerals.{add-one}
 use native.Mathlib.Omega.{arith}
-use lib.Dec.{eqb}
-use borrow.Author.Tests.{eq-eqb, ne-eqb, not-true}
+use borrow.Author.Tests.{not-true}
 use Rattle.numbers.proofs.Choices.{and-left, and-right}
-use Rattle.rules.specs.Starts.{codeAt}
-use Rattle.rules.specs.Going.{noneStopped}
-use Rattle.rules.specs.Totals.{codesFrom}
+use Rattle.rules.specs.Codes.{stops, stepsOf, codeAt, noneStopped, codesFrom}
 
 module _ (steps count : ℕ) where
   -- ---- none is 00
 
-  pub none-stopped-next : (i : ℕ) → noneStopped steps count i ≡ true → (codeAt steps count i ≡ 0 → ⊥) → noneStopped steps count (suc i) ≡ true
+  pub none-stopped-next : (i : ℕ) → noneStopped steps count i ≡ true → stops (codeAt steps count i) ≡ false → noneStopped steps count (suc i) ≡ true
   unfolding noneStopped
-  none-stopped-next i h ne = rw (h, ne-eqb _ _ ne)
+  none-stopped-next i h going = rw (h, going)
 
   pub none-stopped-before : (i : ℕ) → noneStopped steps count (suc i) ≡ true → noneStopped steps count i ≡ true
   unfolding noneStopped
   none-stopped-before i h = search and-left
 
-  pub code-going : (i : ℕ) → noneStopped steps count (suc i) ≡ true → eqb (codeAt steps count i) 0 ≡ false
+  pub code-going : (i : ℕ) → noneStopped steps count (suc i) ≡ true → stops (codeAt steps count i) ≡ false
   unfolding noneStopped
   code-going i h = not-true _ (search and-right)
 
-  pub code-stopping : (i n : ℕ) → i < n → codeAt steps count i ≡ 0 → noneStopped steps count n ≡ false
+  pub code-stopping : (i n : ℕ) → i < n → stops (codeAt steps count i) ≡ true → noneStopped steps count n ≡ false
   unfolding noneStopped
   code-stopping i zero h e = absurd (omega arith)
   code-stopping i (suc n) h e =
-      ⊎-elim (λ last. rw (← last, eq-eqb _ _ e, and-false)) (λ earlier. rw (code-stopping i n earlier e))
+      ⊎-elim (λ last. rw (← last, e, and-false)) (λ earlier. rw (code-stopping i n earlier e))
       (eq-or-lt-of-le (le-of-suc-le-suc h))
 
   -- ---- their positions
@@ -41,11 +38,13 @@ module _ (steps count : ℕ) where
   unfolding codesFrom
   codes-none i = refl
 
-  pub codes-next : (i k : ℕ) → eqb (codeAt steps count i) 0 ≡ false → codesFrom steps count i (suc k) ≡ codeAt steps count i % 16 + 1 + codesFrom steps count (suc i) k
+  pub codes-next : (i k : ℕ) → stops (codeAt steps count i) ≡ false
+      → codesFrom steps count i (suc k) ≡ stepsOf (codeAt steps count i) + 1 + codesFrom steps count (suc i) k
   unfolding codesFrom
   codes-next i k e = rw e
 
-  pub codes-split : (i k : ℕ) → noneStopped steps count i ≡ true → codesFrom steps count 0 (i + k) ≡ codesFrom steps count 0 i + codesFrom steps count i k
+  pub codes-split : (i k : ℕ) → noneStopped steps count i ≡ true
+      → codesFrom steps count 0 (i + k) ≡ codesFrom steps count 0 i + codesFrom steps count i k
   codes-split zero k h = rw (zero-add k, codes-none 0) (omega arith)
   codes-split (suc i) k h =
       let before = none-stopped-before i h in

@@ -10,10 +10,12 @@ use Rattle.numbers.specs.Choose.{choose}
 use Rattle.numbers.proofs.Choices.{choose-either, and-left, and-right}
 use Rattle.pixels.specs.declared.Map.{Map}
 use Rattle.parts.specs.declared.shapes.Point.{Point}
-use Rattle.parts.specs.Reduced.{pointReduced}
+use Rattle.parts.specs.declared.shapes.Pointers.{Pointers}
+use Rattle.parts.proofs.ReducedLaws.{both-kept}
+use Rattle.parts.specs.Reduced.{pointReduced, pointersReduced}
 use Rattle.rules.specs.Operations.{sourceField, patternField, usesSource, usesPattern}
 use Rattle.rules.specs.Maps.{mapAt, isInside}
-use Rattle.rules.specs.Starts.{turned, sourceStarted, patternStarted}
+use Rattle.rules.specs.Starts.{turned, pointersStarted}
 use Rattle.rules.specs.Going.{pointersHold}
 
 -- ---- one coordinate
@@ -50,7 +52,10 @@ module _ (map : Map) (p : Point) where
   pub turned-reduced : pointReduced p ≡ true → pointReduced (turned map p) ≡ true
   unfolding pointReduced turned
   turned-reduced h =
-      rw (lt-ltb _ _ (remainder-lt (p .x) (map .width) 4096 (ltb-true _ _ (search (and-left, and-right)))), lt-ltb _ _ (remainder-lt (p .y) (map .height) 4096 (ltb-true _ _ (search (and-left, and-right)))))
+      rw (
+        lt-ltb _ _ (remainder-lt (p .x) (map .width) 4096 (ltb-true _ _ (search (and-left, and-right)))),
+        lt-ltb _ _ (remainder-lt (p .y) (map .height) 4096 (ltb-true _ _ (search (and-left, and-right)))),
+      )
 
 -- ---- the pointers at a start
 
@@ -59,21 +64,20 @@ chosen : {A : Type 0} (holds : A → Bool) (asked : Bool) (a b : A) → holds a 
 chosen holds true a b h = h
 chosen holds false a b h = refl
 
-module _ (operations : ℕ) (maps : List Map) (p : Point) where
-  pub source-started-reduced : pointReduced p ≡ true → pointReduced (sourceStarted operations maps p) ≡ true
-  unfolding sourceStarted
-  source-started-reduced h =
-      choose-either (λ (q : Point). pointReduced q ≡ true) (usesSource operations) (turned-reduced (mapAt maps (sourceField operations)) p h) h
+module _ (operations : ℕ) (maps : List Map) (p : Pointers) where
+  pub pointers-started-reduced : pointersReduced p ≡ true → pointersReduced (pointersStarted operations maps p) ≡ true
+  unfolding pointersReduced pointersStarted
+  pointers-started-reduced =
+      both-kept
+      (both-kept
+      (λ h. choose-either (λ (q : Point). pointReduced q ≡ true) (usesSource operations) (turned-reduced (mapAt maps (sourceField operations)) (p .source) h) h)
+      (λ h. choose-either (λ (q : Point). pointReduced q ≡ true) (usesPattern operations) (turned-reduced (mapAt maps (patternField operations)) (p .pattern) h) h))
+      (λ h. h)
 
-  pub pattern-started-reduced : pointReduced p ≡ true → pointReduced (patternStarted operations maps p) ≡ true
-  unfolding patternStarted
-  pattern-started-reduced h =
-      choose-either (λ (q : Point). pointReduced q ≡ true) (usesPattern operations) (turned-reduced (mapAt maps (patternField operations)) p h) h
-
-  pub pointers-started : (q : Point) → pointersHold operations maps (sourceStarted operations maps p) (patternStarted operations maps q) ≡ true
-  unfolding pointersHold sourceStarted patternStarted
-  pointers-started q =
+  pub pointers-started : pointersHold operations maps (pointersStarted operations maps p) ≡ true
+  unfolding pointersHold pointersStarted
+  pointers-started =
       let source = mapAt maps (sourceField operations) in
       let pattern = mapAt maps (patternField operations) in
-      rw (chosen (isInside source) (usesSource operations) _ p (inside-turned source p))
-      (chosen (isInside pattern) (usesPattern operations) _ q (inside-turned pattern q))
+      rw (chosen (isInside source) (usesSource operations) _ (p .source) (inside-turned source (p .source)))
+      (chosen (isInside pattern) (usesPattern operations) _ (p .pattern) (inside-turned pattern (p .pattern)))

@@ -1,5 +1,6 @@
 pub mod Operations
 pub mod Maps
+pub mod Codes
 pub mod Rules
 pub mod Starts
 pub mod Going

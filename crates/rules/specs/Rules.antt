@@ -6,9 +6,12 @@ use lib.Dec.{leb, eqb}
 use Rattle.numbers.specs.Choose.{choose}
 use Rattle.pixels.specs.declared.Map.{Map}
 use Rattle.pixels.specs.Maps.{bitsOf}
+use Rattle.parts.specs.declared.shapes.Colours.{Colours}
+use Rattle.parts.specs.declared.shapes.Registers.{Registers}
 use Rattle.parts.specs.declared.refusals.Refusal.{Refusal}
 use Rattle.parts.specs.declared.refusals.Refusal.the-variants.{Accepted, Fields, Mixes, Formats, Ends}
-use Rattle.rules.specs.Operations.{backgroundSource, foregroundSource, sourceField, destinationField, patternField, maskMode, octantOf, isMap, isFill, sourceIsColour, usesSource, usesPattern, usesMask}
+use Rattle.rules.specs.Operations.{backgroundSource, foregroundSource, sourceField, destinationField, patternField, maskMode, octantOf}
+use Rattle.rules.specs.Operations.{isMap, isFill, sourceIsColour, usesSource, usesPattern, usesMask}
 use Rattle.rules.specs.Maps.{mapAt, formatHolds, isOneBit, endHolds}
 
 -- 01, refusal 5: a source field is 00 or 10
@@ -35,8 +38,8 @@ fieldsHold operations =
     && (not (isFill operations) || fillHolds operations)
 
 -- 01, refusal 6: neither mix above 15 hex
-unfoldable pub mixesHold : ℕ → ℕ → Bool
-mixesHold foreground background = leb foreground 0x15 && leb background 0x15
+unfoldable pub mixesHold : Colours → Bool
+mixesHold colours = leb (colours .foreground .mix) 0x15 && leb (colours .background .mix) 0x15
 
 -- docs/DECISIONS.md, 3: what holds of every map that is used: the destination always, source, pattern and mask where they are used
 unfoldable pub usedMaps : (Map → Bool) → ℕ → List Map → Bool
@@ -50,7 +53,8 @@ usedMaps holds operations maps =
 unfoldable pub formatsHold : ℕ → List Map → Bool
 formatsHold operations maps =
     usedMaps formatHolds operations maps
-    && (not (sourceIsColour operations) || eqb (bitsOf (mapAt maps (sourceField operations) .format)) (bitsOf (mapAt maps (destinationField operations) .format)))
+    && (not (sourceIsColour operations)
+    || eqb (bitsOf (mapAt maps (sourceField operations) .format)) (bitsOf (mapAt maps (destinationField operations) .format)))
     && (not (usesPattern operations) || isOneBit (mapAt maps (patternField operations)))
     && (not (usesMask operations) || isOneBit (mapAt maps 0))
 
@@ -59,10 +63,10 @@ unfoldable pub endsHold : ℕ → List Map → ℕ → Bool
 endsHold operations maps size = usedMaps (endHolds size) operations maps
 
 -- 01, refusals 5 to 8, the lowest first
-unfoldable pub startRefusal : ℕ → ℕ → ℕ → List Map → ℕ → Refusal
-startRefusal operations foreground background maps size =
-    choose (not (fieldsHold operations)) Fields
-    (choose (not (mixesHold foreground background)) Mixes
-    (choose (not (formatsHold operations maps)) Formats
-    (choose (not (endsHold operations maps size)) Ends
+unfoldable pub startRefusal : ℕ → List Map → Registers → Refusal
+startRefusal size maps r =
+    choose (not (fieldsHold (r .figure .operations))) Fields
+    (choose (not (mixesHold (r .colours))) Mixes
+    (choose (not (formatsHold (r .figure .operations) maps)) Formats
+    (choose (not (endsHold (r .figure .operations) maps size)) Ends
     Accepted)))

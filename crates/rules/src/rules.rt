@@ -23,6 +23,8 @@ use crate::operations::uses_mask;
 use crate::operations::uses_pattern;
 use crate::operations::uses_source;
 use parts::refusals::Refusal;
+use parts::shapes::Colours;
+use parts::shapes::Registers;
 use pixels::Map;
 
 // Whether a source field is 00 or 10.
@@ -47,7 +49,7 @@ fn fill_holds(operations: u32) -> bool
 }
 
 // Whether refusal 5 does not apply.
-pub fn fields_hold(operations: u32) -> bool
+fn fields_hold(operations: u32) -> bool
     ensures { λ r. ⌜ r ≡ fieldsHold operations ⌝ }
 {
     is_source(foreground_source(operations))
@@ -60,10 +62,10 @@ pub fn fields_hold(operations: u32) -> bool
 }
 
 // Whether refusal 6 does not apply.
-pub fn mixes_hold(foreground: u8, background: u8) -> bool
-    ensures { λ r. ⌜ r ≡ mixesHold foreground background ⌝ }
+fn mixes_hold(colours: Colours) -> bool
+    ensures { λ r. ⌜ r ≡ mixesHold colours ⌝ }
 {
-    (foreground <= 0x15) & (background <= 0x15)
+    (colours.foreground.mix <= 0x15) & (colours.background.mix <= 0x15)
 }
 
 // Whether every used map has a pixel size in Intel order.
@@ -78,7 +80,8 @@ fn used_formats_hold(operations: u32, maps: [Map; 4]) -> bool
 
 // Whether a source used for a colour has the destination's pixel size.
 fn sizes_agree(operations: u32, maps: [Map; 4]) -> bool
-    ensures { λ r. ⌜ r ≡ (not (sourceIsColour operations) || eqb (bitsOf (mapAt maps (sourceField operations) .format)) (bitsOf (mapAt maps (destinationField operations) .format))) ⌝ }
+    ensures { λ r. ⌜ r ≡ (not (sourceIsColour operations)
+        || eqb (bitsOf (mapAt maps (sourceField operations) .format)) (bitsOf (mapAt maps (destinationField operations) .format))) ⌝ }
 {
     let source = map_at(maps, source_field(operations));
     let destination = map_at(maps, destination_field(operations));
@@ -87,7 +90,7 @@ fn sizes_agree(operations: u32, maps: [Map; 4]) -> bool
 }
 
 // Whether refusal 7 does not apply.
-pub fn formats_hold(operations: u32, maps: [Map; 4]) -> bool
+fn formats_hold(operations: u32, maps: [Map; 4]) -> bool
     ensures { λ r. ⌜ r ≡ formatsHold operations maps ⌝ }
 {
     used_formats_hold(operations, maps)
@@ -97,7 +100,7 @@ pub fn formats_hold(operations: u32, maps: [Map; 4]) -> bool
 }
 
 // Whether refusal 8 does not apply.
-pub fn ends_hold(operations: u32, maps: [Map; 4], size: u32) -> bool
+fn ends_hold(operations: u32, maps: [Map; 4], size: u32) -> bool
     ensures { λ r. ⌜ r ≡ endsHold operations maps size ⌝ }
 {
     end_holds(size, map_at(maps, destination_field(operations)))
@@ -107,19 +110,15 @@ pub fn ends_hold(operations: u32, maps: [Map; 4], size: u32) -> bool
 }
 
 // The lowest of refusals 5 to 8 that applies to a start on these registers.
-pub fn start_refusal(
-    operations: u32,
-    foreground: u8,
-    background: u8,
-    maps: [Map; 4],
-    size: u32,
-) -> Refusal
-    ensures { λ r. ⌜ r ≡ startRefusal operations foreground background maps size ⌝ }
+pub fn start_refusal(size: u32, maps: [Map; 4], registers: Registers) -> Refusal
+    ensures { λ r. ⌜ r ≡ startRefusal size maps registers ⌝ }
 {
+    let operations = registers.figure.operations;
+    let colours = registers.colours;
     if !fields_hold(operations) {
         return Refusal::Fields;
     }
-    if !mixes_hold(foreground, background) {
+    if !mixes_hold(colours) {
         return Refusal::Mixes;
     }
     if !formats_hold(operations, maps) {

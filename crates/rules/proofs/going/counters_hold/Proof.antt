@@ -40,7 +40,7 @@ unfolding countersHold
 returns-2 c = rw (c .before .before .before .before .drawing .given .1, c .before .before .is-line .ensures, c .mode-of .ensures)
 
 returns-3 : tie.Need-returns-3
-returns-3 c = rw (c .before .before .drawing2 .given .1) (c .codes-hold .ensures _)
+returns-3 c = rw (c .before .before .drawing2 .given .1) (c .codes-hold .ensures)
 
 returns-4 : tie.Need-returns-4
 unfolding countersHold

@@ -1,6 +1,6 @@
 -- `pointers_hold` asks for both pointers whether they lie in the maps that they use.
-use borrow.Author.Needs.{needs}
 use Rattle.rules.specs.Going.{pointersHold}
+use borrow.Author.Needs.{needs}
 use Rattle.rules.proofs.going.pointers_hold.Statement.{statement}
 use Rattle.rules.proofs.going.pointers_hold.Tie as tie
 

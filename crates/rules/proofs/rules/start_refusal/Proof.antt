@@ -1,6 +1,6 @@
 -- `start_refusal` gives the first refusal whose rule fails: each return has the tests before it held, and its own failed.
-use borrow.Author.Needs.{needs}
 use Rattle.rules.specs.Rules.{startRefusal}
+use borrow.Author.Needs.{needs}
 use Rattle.rules.proofs.rules.start_refusal.Statement.{statement}
 use Rattle.rules.proofs.rules.start_refusal.Tie as tie
 
@@ -16,9 +16,7 @@ mixes-hold-requires c κs = search needs
 
 returns-2 : tie.Need-returns-2
 unfolding startRefusal
-returns-2 c =
-    let fields = c .before .before in
-    rw (← fields .before .fields-hold .ensures, fields .if1 .left, ← c .before .mixes-hold .ensures, c .if2 .taken)
+returns-2 c = rw (← c .before .before .before .fields-hold .ensures, c .before .before .if1 .left, ← c .before .mixes-hold .ensures, c .if2 .taken)
 
 formats-hold-requires : tie.Need-formats-hold-requires
 formats-hold-requires c κs = search needs
@@ -28,7 +26,8 @@ unfolding startRefusal
 returns-3 c =
     let mixes = c .before .before in
     let fields = mixes .before .before in
-    rw (← fields .before .fields-hold .ensures, fields .if1 .left, ← mixes .before .mixes-hold .ensures, mixes .if2 .left, ← c .before .formats-hold .ensures, c .if3 .taken)
+    rw (← fields .before .fields-hold .ensures, fields .if1 .left, ← mixes .before .mixes-hold .ensures, mixes .if2 .left)
+    (rw (← c .before .formats-hold .ensures, c .if3 .taken))
 
 ends-hold-requires : tie.Need-ends-hold-requires
 ends-hold-requires c κs = search needs
@@ -39,7 +38,8 @@ returns-4 c =
     let formats = c .before .before in
     let mixes = formats .before .before in
     let fields = mixes .before .before in
-    rw (← fields .before .fields-hold .ensures, fields .if1 .left, ← mixes .before .mixes-hold .ensures, mixes .if2 .left, ← formats .before .formats-hold .ensures, formats .if3 .left, ← c .before .ends-hold .ensures, c .if4 .taken)
+    rw (← fields .before .fields-hold .ensures, fields .if1 .left, ← mixes .before .mixes-hold .ensures, mixes .if2 .left)
+    (rw (← formats .before .formats-hold .ensures, formats .if3 .left, ← c .before .ends-hold .ensures, c .if4 .taken))
 
 returns-5 : tie.Need-returns-5
 unfolding startRefusal
@@ -47,7 +47,8 @@ returns-5 c =
     let formats = c .before .before in
     let mixes = formats .before .before in
     let fields = mixes .before .before in
-    rw (← fields .before .fields-hold .ensures, fields .if1 .left, ← mixes .before .mixes-hold .ensures, mixes .if2 .left, ← formats .before .formats-hold .ensures, formats .if3 .left, ← c .before .ends-hold .ensures, c .if4 .left)
+    rw (← fields .before .fields-hold .ensures, fields .if1 .left, ← mixes .before .mixes-hold .ensures, mixes .if2 .left)
+    (rw (← formats .before .formats-hold .ensures, formats .if3 .left, ← c .before .ends-hold .ensures, c .if4 .left))
 
 pub start-refusal-spec : {M : Type 1} → statement M
 start-refusal-spec =

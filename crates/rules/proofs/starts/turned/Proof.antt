@@ -1,6 +1,6 @@
--- `turned` is the two remainders by the map's size.
-use borrow.Author.Needs.{needs}
+-- `turned` is the two remainders by the map's size where the map is used, and the pointer as it is elsewhere.
 use Rattle.rules.specs.Starts.{turned}
+use borrow.Author.Needs.{needs}
 use Rattle.rules.proofs.starts.turned.Statement.{statement}
 use Rattle.rules.proofs.starts.turned.Tie as tie
 
@@ -12,7 +12,10 @@ remainder-requires-2 c κs = search needs
 
 returns : tie.Need-returns
 unfolding turned
-returns c = rw (c .remainder2 .ensures, c .before .remainder .ensures)
+returns c = rw (c .before .before .if1 .taken, c .remainder2 .ensures, c .before .remainder .ensures)
+
+returns-2 : tie.Need-returns-2
+returns-2 c = rw (c .if1 .left)
 
 pub turned-spec : {M : Type 1} → statement M
-turned-spec = tie.close (tie.spec remainder-requires remainder-requires-2 returns)
+turned-spec = tie.close (tie.spec remainder-requires remainder-requires-2 returns returns-2)

@@ -1,8 +1,8 @@
 -- `code_at` is the byte of the register after those that the write left out.
 use borrow.Author.Needs.{needs}
-use Rattle.rules.specs.Starts.{codeAt}
-use Rattle.rules.proofs.starts.code_at.Statement.{statement}
-use Rattle.rules.proofs.starts.code_at.Tie as tie
+use Rattle.rules.specs.Codes.{codeAt}
+use Rattle.rules.proofs.codes.code_at.Statement.{statement}
+use Rattle.rules.proofs.codes.code_at.Tie as tie
 
 left-out-requires : tie.Need-left-out-requires
 left-out-requires c κs = search needs
