@@ -3,7 +3,7 @@ use mathlib.Core.List.{List}
 use Prim.Native.Nat.{ℕ}
 use Rattle.numbers.specs.Choose.{choose}
 use Rattle.parts.specs.declared.refusals.Refusal.{Refusal}
-use Rattle.parts.specs.Refusals.{isAccepted, numberOf}
+use Rattle.parts.specs.Refusals.{isAccepted, refusalNumber}
 use Rattle.coprocessor.specs.declared.Coprocessor.{Coprocessor}
 use Rattle.coprocessor.specs.Writes.{writeAnswer}
 use Rattle.coprocessor.specs.Runs.{runAnswer, runMemory}
@@ -15,7 +15,7 @@ use Rattle.answers.specs.declared.Told.{Told}
 
 -- 01, the bench program: the positions done, or the refusal
 unfoldable pub answerOf : Refusal → ℕ → Answer
-answerOf refusal positions = choose (isAccepted refusal) (Done positions) (Refused (numberOf refusal))
+answerOf refusal positions = choose (isAccepted refusal) (Done positions) (Refused (refusalNumber refusal))
 
 -- 01, the bench program: 0 positions for writes
 unfoldable pub writeTold : ℕ → ℕ → ℕ → Coprocessor → Told

@@ -4,7 +4,7 @@ use mathlib.Core.List.{List}
 use Rattle.numbers.specs.Choose.{choose}
 use Rattle.numbers.specs.declared.bytes.Write.{Write}
 use Rattle.parts.specs.declared.refusals.Refusal.{Refusal}
-use Rattle.parts.specs.Refusals.{isAccepted, numberOf}
+use Rattle.parts.specs.Refusals.{isAccepted, refusalNumber}
 use Rattle.coprocessor.specs.Fresh.{freshAnswer}
 use Rattle.coprocessor.specs.Reads.{readAnswer}
 use Rattle.coprocessor.specs.Writes.{writeAnswer}
@@ -17,12 +17,12 @@ noImage = 10
 
 -- docs/DECISIONS.md, 32: a refusal and a value in one number of 64 bits
 unfoldable pub answerOf : Refusal → ℕ → ℕ
-answerOf refusal value = numberOf refusal * 2 ^ 32 + value
+answerOf refusal value = refusalNumber refusal * 2 ^ 32 + value
 
 -- 01, refusals 9 and 10: a fresh state, then a save: 9 for a size outside the limit, otherwise 10 for a buffer not of 115 bytes
 unfoldable pub freshNumber : List ℕ → ℕ → ℕ
 freshNumber image size =
-    choose (isAccepted (freshAnswer size .refusal)) (numberOf (saveRefusal (freshAnswer size .coprocessor) image)) (numberOf (freshAnswer size .refusal))
+    choose (isAccepted (freshAnswer size .refusal)) (refusalNumber (saveRefusal (freshAnswer size .coprocessor) image)) (refusalNumber (freshAnswer size .refusal))
 
 -- 01, refusals 9 and 10: a fresh state of size 1 for a size outside the limit; a buffer not of 115 bytes stays
 unfoldable pub freshImage : List ℕ → ℕ → List ℕ
@@ -30,7 +30,7 @@ freshImage image size = saved (freshAnswer size .coprocessor) image
 
 -- docs/DECISIONS.md, 32: a write, between a load and a save
 unfoldable pub writeNumber : List ℕ → Write → ℕ
-writeNumber image w = choose (loads image) (numberOf (writeAnswer w (loaded image) .refusal)) noImage
+writeNumber image w = choose (loads image) (refusalNumber (writeAnswer w (loaded image) .refusal)) noImage
 
 -- 01, Numbers a call answers with: a refused write stores nothing, and an image that does not load stays
 unfoldable pub writeImage : List ℕ → Write → List ℕ

@@ -5,7 +5,7 @@ use mathlib.Core.Bool.{Bool, true, false, not, _&&_}
 use mathlib.Core.List.{List, [], _∷_}
 use lib.ListN.{length, set}
 use lib.Dec.{eqb}
-use Rattle.parts.specs.Refusals.{numberOf, isAccepted}
+use Rattle.parts.specs.Refusals.{refusalNumber, isAccepted}
 use Rattle.coprocessor.specs.declared.Coprocessor.{Coprocessor}
 use Rattle.coprocessor.specs.declared.Written.{Written}
 use Rattle.coprocessor.specs.Fresh.{freshAnswer}
@@ -76,14 +76,14 @@ answers [] c bytes = true
 answers (write offset length value ∷ calls) c bytes =
     isAccepted (written offset length value c .refusal) && answers calls (written offset length value c .coprocessor) bytes
 answers (refused offset length value number ∷ calls) c bytes =
-    eqb (numberOf (written offset length value c .refusal)) number
+    eqb (refusalNumber (written offset length value c .refusal)) number
     && answers calls (written offset length value c .coprocessor) bytes
 answers (read offset length value ∷ calls) c bytes =
     isAccepted (readAnswer c offset length .refusal)
     && eqb (readAnswer c offset length .value) value
     && answers calls c bytes
 answers (unread offset length number ∷ calls) c bytes =
-    eqb (numberOf (readAnswer c offset length .refusal)) number
+    eqb (refusalNumber (readAnswer c offset length .refusal)) number
     && eqb (readAnswer c offset length .value) 0
     && answers calls c bytes
 answers (run allowance done ∷ calls) c bytes =
@@ -95,15 +95,15 @@ answers (carried size ∷ calls) c bytes =
     && isAccepted (loadAnswer (freshAnswer size .coprocessor) (saved c (zeros 115)) .refusal)
     && answers calls (loadAnswer (freshAnswer size .coprocessor) (saved c (zeros 115)) .coprocessor) bytes
 answers (altered place byte number ∷ calls) c bytes =
-    eqb (numberOf (loadAnswer c (set (saved c (zeros 115)) place byte) .refusal)) number
+    eqb (refusalNumber (loadAnswer c (set (saved c (zeros 115)) place byte) .refusal)) number
     && answers calls (loadAnswer c (set (saved c (zeros 115)) place byte) .coprocessor) bytes
 answers (unsaved length number ∷ calls) c bytes =
-    eqb (numberOf (saveRefusal c (zeros length))) number
+    eqb (refusalNumber (saveRefusal c (zeros length))) number
     && same (saved c (zeros length)) (zeros length)
     && answers calls c bytes
 answers (unloaded image number ∷ calls) c bytes =
-    eqb (numberOf (loadAnswer c image .refusal)) number && answers calls (loadAnswer c image .coprocessor) bytes
-answers (fresh size number ∷ calls) c bytes = eqb (numberOf (freshAnswer size .refusal)) number && answers calls c bytes
+    eqb (refusalNumber (loadAnswer c image .refusal)) number && answers calls (loadAnswer c image .coprocessor) bytes
+answers (fresh size number ∷ calls) c bytes = eqb (refusalNumber (freshAnswer size .refusal)) number && answers calls c bytes
 answers (memory seen ∷ calls) c bytes = same bytes seen && answers calls c bytes
 answers (changed before ∷ calls) c bytes = not (same bytes before) && answers calls c bytes
 answers (state number ∷ calls) c bytes = eqb (countersOf (c .drawing) .state) number && answers calls c bytes

@@ -5,7 +5,7 @@ use mathlib.Core.List.{List}
 use Prim.Native.Nat.{ℕ}
 use Rattle.numbers.specs.Choose.{choose}
 use Rattle.parts.specs.declared.refusals.Refusal.the-variants.{Accepted, Image}
-use Rattle.parts.specs.Refusals.{isAccepted, numberOf}
+use Rattle.parts.specs.Refusals.{isAccepted, refusalNumber}
 use Rattle.coprocessor.specs.declared.Coprocessor.{Coprocessor}
 use Rattle.coprocessor.specs.declared.Written.{Written}
 use Rattle.coprocessor.specs.Images.{loads, loaded, loadAnswer}
@@ -26,10 +26,10 @@ pub opened-refused : (c : Coprocessor) (b : List ℕ) → loads b ≡ false → 
 unfolding loadAnswer
 opened-refused c b e = simp e
 
-pub opened-number : (c : Coprocessor) (b : List ℕ) → numberOf (loadAnswer c b .refusal) ≡ choose (loads b) 0 10
+pub opened-number : (c : Coprocessor) (b : List ℕ) → refusalNumber (loadAnswer c b .refusal) ≡ choose (loads b) 0 10
 unfolding loadAnswer
 opened-number c b = by (loads b)
   where
-    by : (t : Bool) → numberOf (choose {A = Written} t (record { refusal = Accepted; coprocessor = loaded b }) (record { refusal = Image; coprocessor = c }) .refusal) ≡ choose t 0 10
+    by : (t : Bool) → refusalNumber (choose {A = Written} t (record { refusal = Accepted; coprocessor = loaded b }) (record { refusal = Image; coprocessor = c }) .refusal) ≡ choose t 0 10
     by true = refl
     by false = refl

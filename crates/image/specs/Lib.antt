@@ -1,5 +1,6 @@
-pub mod Words
 pub mod Counters
+pub mod Layout
+pub mod Bank
 pub mod Fields
-pub mod Places
+pub mod Read
 pub mod Inner

@@ -2,7 +2,6 @@ ghost use mathlib.Core.Path.{_≡_};
 ghost use Rattle.image.specs.Counters.{countersOf, drawingOf};
 ghost use Rattle.image.specs.Inner.{sameCounters};
 use parts::drawing::Drawing;
-use parts::reduced::both;
 use rules::operations::is_codes;
 use rules::operations::is_line;
 
@@ -85,8 +84,5 @@ pub fn drawing_of(operations: u32, k: Counters) -> Drawing
 pub fn are_same(j: Counters, k: Counters) -> bool
     ensures { λ r. ⌜ r ≡ sameCounters j k ⌝ }
 {
-    both(
-        both(both(j.state == k.state, j.done == k.done), j.gone == k.gone),
-        j.count == k.count,
-    )
+    (j.state == k.state) & (j.done == k.done) & (j.gone == k.gone) & (j.count == k.count)
 }

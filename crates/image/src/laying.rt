@@ -1,22 +1,31 @@
 // The fields of an image, laid one after another.
 
 ghost use mathlib.Core.Path.{_≡_};
-ghost use Prim.Native.Nat.{_+_, _*_, _≤_};
+ghost use Prim.Native.Nat.{_+_, _≤_};
 ghost use lib.ListN.{length};
 ghost use lib.Seq.{sets};
-ghost use Rattle.image.specs.Counters.{countersOf};
-ghost use Rattle.image.specs.Fields.{laid, counterFields, headFields, mapFields, mapsFields, wordFields, bankFields, fieldsBy};
+ghost use Rattle.image.specs.Layout as defined;
+ghost use Rattle.image.specs.Fields.{laid, counterFields, headFields, mapFields, mapsFields, fieldsOf};
+ghost use Rattle.image.specs.Inner.{termBytes, mixBytes, colourBytes, pointBytes, spotBytes, lowBytes, highBytes};
 use crate::counters::Counters;
 use crate::counters::counters_of;
 use crate::layout;
+use crate::words::point_word;
+use crate::words::spot_word;
 use numbers::bytes::store;
+use numbers::circles::word;
 use parts::drawing::Drawing;
+use parts::shapes::Colours;
+use parts::shapes::Point;
+use parts::shapes::Registers;
+use parts::shapes::Spot;
+use parts::shapes::Terms;
 use pixels::Map;
 
 // State, positions done, rows or codes done, codes.
 fn lay_counters(k: Counters, buffer: &mut [u8])
-    requires { ⌜ length (now buffer) ≡ 115 ⌝ }
-    ensures { λ _. ⌜ now (buffer .exit) ≡ sets (now (buffer .entry)) 9 (laid (counterFields k)) ⌝ }
+    requires { ⌜ length (now buffer) ≡ defined.imageLength ⌝ }
+    ensures { λ _. ⌜ now (buffer .exit) ≡ sets (now (buffer .entry)) (defined.state .from) (laid (counterFields k)) ⌝ }
 {
     store(buffer, layout::STATE_AT, 1, k.state as u32);
     store(buffer, layout::DONE_AT, 2, k.done as u32);
@@ -26,7 +35,7 @@ fn lay_counters(k: Counters, buffer: &mut [u8])
 
 // Mark, version, size, the drawing's counters, map index.
 fn lay_head(size: u32, index: u8, k: Counters, buffer: &mut [u8])
-    requires { ⌜ length (now buffer) ≡ 115 ⌝ }
+    requires { ⌜ length (now buffer) ≡ defined.imageLength ⌝ }
     ensures { λ _. ⌜ now (buffer .exit) ≡ sets (now (buffer .entry)) 0 (laid (headFields k size index)) ⌝ }
 {
     store(buffer, layout::MARK_AT, 3, layout::MARK);
@@ -39,7 +48,7 @@ fn lay_head(size: u32, index: u8, k: Counters, buffer: &mut [u8])
 // Base, width, height, format.
 fn lay_map(map: Map, offset: usize, buffer: &mut [u8])
     requires { ⌜ offset + 9 ≤ length (now buffer) ⌝ }
-    ensures { λ _. ⌜ now (buffer .exit) ≡ sets (now (buffer .entry)) offset (laid (mapFields map)) ⌝ }
+    ensures { λ _. ⌜ now (buffer .exit) ≡ sets (now (buffer .entry)) offset (laid (mapFields 0 map)) ⌝ }
 {
     store(buffer, offset, 4, map.base);
     store(buffer, offset + 4, 2, map.width as u32);
@@ -48,8 +57,8 @@ fn lay_map(map: Map, offset: usize, buffer: &mut [u8])
 }
 
 fn lay_maps(maps: [Map; 4], buffer: &mut [u8])
-    requires { ⌜ length (now buffer) ≡ 115 ⌝ }
-    ensures { λ _. ⌜ now (buffer .exit) ≡ sets (now (buffer .entry)) 16 (laid (mapsFields maps)) ⌝ }
+    requires { ⌜ length (now buffer) ≡ defined.imageLength ⌝ }
+    ensures { λ _. ⌜ now (buffer .exit) ≡ sets (now (buffer .entry)) (defined.mapBase 0 .from) (laid (mapsFields maps)) ⌝ }
 {
     lay_map(maps[0], layout::MASK_MAP_AT, buffer);
     lay_map(maps[1], layout::MAP_A_AT, buffer);
@@ -57,42 +66,112 @@ fn lay_maps(maps: [Map; 4], buffer: &mut [u8])
     lay_map(maps[3], layout::MAP_C_AT, buffer);
 }
 
-// The `count` words from `from` on, four bytes each.
-fn lay_words(words: [u32; 32], from: usize, count: usize, offset: usize, buffer: &mut [u8])
-    requires { ⌜ (from + count ≤ 32) × (offset + 4 * count ≤ length (now buffer)) ⌝ }
-    ensures { λ _. ⌜ now (buffer .exit) ≡ sets (now (buffer .entry)) offset (laid (wordFields words from count)) ⌝ }
+// E, K1 and K2.
+fn lay_terms(terms: Terms, buffer: &mut [u8])
+    requires { ⌜ length (now buffer) ≡ defined.imageLength ⌝ }
+    ensures { λ _. ⌜ now (buffer .exit) ≡ sets (now (buffer .entry)) 52 (termBytes terms) ⌝ }
 {
-    let mut i = 0;
-    while i < count {
-        store(buffer, offset + 4 * i, 4, words[from + i]);
-        i += 1;
-    }
+    store(buffer, layout::E_AT, 4, word(terms.e));
+    store(buffer, layout::K1_AT, 4, word(terms.k1));
+    store(buffer, layout::K2_AT, 4, word(terms.k2));
 }
 
-// The registers 20 to 2F hex, 48 to 4A, 4C to 63, and 6C to 7F.
-fn lay_bank(words: [u32; 32], buffer: &mut [u8])
-    requires { ⌜ length (now buffer) ≡ 115 ⌝ }
-    ensures { λ _. ⌜ now (buffer .exit) ≡ sets (now (buffer .entry)) 52 (laid (bankFields words)) ⌝ }
+// The two mixes and the compare condition.
+fn lay_mixes(colours: Colours, buffer: &mut [u8])
+    requires { ⌜ length (now buffer) ≡ defined.imageLength ⌝ }
+    ensures { λ _. ⌜ now (buffer .exit) ≡ sets (now (buffer .entry)) 68 (mixBytes colours) ⌝ }
 {
-    lay_words(words, 8, 4, layout::E_AT, buffer);
-    store(buffer, layout::FOREGROUND_MIX_AT, 3, words[18]);
-    lay_words(words, 19, 6, layout::VALUE_AT, buffer);
-    lay_words(words, 27, 5, layout::ORIGIN_AT, buffer);
+    store(
+        buffer,
+        layout::FOREGROUND_MIX_AT,
+        1,
+        colours.foreground.mix as u32,
+    );
+    store(
+        buffer,
+        layout::BACKGROUND_MIX_AT,
+        1,
+        colours.background.mix as u32,
+    );
+    store(
+        buffer,
+        layout::CONDITION_AT,
+        1,
+        colours.compare.condition as u32,
+    );
+}
+
+// The compare value, the masks and the colours.
+fn lay_colours(colours: Colours, buffer: &mut [u8])
+    requires { ⌜ length (now buffer) ≡ defined.imageLength ⌝ }
+    ensures { λ _. ⌜ now (buffer .exit) ≡ sets (now (buffer .entry)) 71 (colourBytes colours) ⌝ }
+{
+    store(buffer, layout::VALUE_AT, 4, colours.compare.value);
+    store(buffer, layout::PLANES_AT, 4, colours.planes);
+    store(buffer, layout::CARRIES_AT, 4, colours.carries);
+    store(buffer, layout::FOREGROUND_AT, 4, colours.foreground.colour);
+    store(buffer, layout::BACKGROUND_AT, 4, colours.background.colour);
+}
+
+// A pair of two bytes each, as one word.
+fn lay_point(point: Point, offset: usize, buffer: &mut [u8])
+    requires { ⌜ offset + 4 ≤ length (now buffer) ⌝ }
+    ensures { λ _. ⌜ now (buffer .exit) ≡ sets (now (buffer .entry)) offset (pointBytes point) ⌝ }
+{
+    store(buffer, offset, 4, point_word(point));
+}
+
+// The destination pointer, as one word.
+fn lay_spot(spot: Spot, buffer: &mut [u8])
+    requires { ⌜ length (now buffer) ≡ defined.imageLength ⌝ }
+    ensures { λ _. ⌜ now (buffer .exit) ≡ sets (now (buffer .entry)) 107 (spotBytes spot) ⌝ }
+{
+    store(buffer, layout::DESTINATION_AT, 4, spot_word(spot));
+}
+
+// Every register from 20 to 63 hex.
+fn lay_figure(registers: Registers, buffer: &mut [u8])
+    requires { ⌜ length (now buffer) ≡ defined.imageLength ⌝ }
+    ensures { λ _. ⌜ now (buffer .exit) ≡ sets (now (buffer .entry)) 52 (lowBytes registers) ⌝ }
+{
+    let terms = registers.terms;
+    let colours = registers.colours;
+    let dimensions = registers.figure.dimensions;
+    lay_terms(terms, buffer);
+    store(buffer, layout::STEPS_AT, 4, registers.figure.steps);
+    lay_mixes(colours, buffer);
+    lay_colours(colours, buffer);
+    lay_point(dimensions, layout::DIMENSIONS_AT, buffer);
+}
+
+// Every register from 6C to 7F hex.
+fn lay_pointers(registers: Registers, buffer: &mut [u8])
+    requires { ⌜ length (now buffer) ≡ defined.imageLength ⌝ }
+    ensures { λ _. ⌜ now (buffer .exit) ≡ sets (now (buffer .entry)) 95 (highBytes registers) ⌝ }
+{
+    let origin = registers.figure.origin;
+    let source = registers.pointers.source;
+    let pattern = registers.pointers.pattern;
+    let destination = registers.pointers.destination;
+    lay_point(origin, layout::ORIGIN_AT, buffer);
+    lay_point(source, layout::SOURCE_AT, buffer);
+    lay_point(pattern, layout::PATTERN_AT, buffer);
+    lay_spot(destination, buffer);
+    store(
+        buffer,
+        layout::OPERATIONS_AT,
+        4,
+        registers.figure.operations,
+    );
 }
 
 // Lays the whole image into a buffer of its length.
-pub fn lay(
-    size: u32,
-    index: u8,
-    maps: [Map; 4],
-    drawing: Drawing,
-    words: [u32; 32],
-    buffer: &mut [u8],
-)
-    requires { ⌜ length (now buffer) ≡ 115 ⌝ }
-    ensures { λ _. ⌜ now (buffer .exit) ≡ laid (fieldsBy (countersOf drawing) words size index maps) ⌝ }
+pub fn lay(size: u32, maps: [Map; 4], registers: Registers, drawing: Drawing, buffer: &mut [u8])
+    requires { ⌜ length (now buffer) ≡ defined.imageLength ⌝ }
+    ensures { λ _. ⌜ now (buffer .exit) ≡ laid (fieldsOf size maps registers drawing) ⌝ }
 {
-    lay_head(size, index, counters_of(drawing), buffer);
+    lay_head(size, registers.index, counters_of(drawing), buffer);
     lay_maps(maps, buffer);
-    lay_bank(words, buffer);
+    lay_figure(registers, buffer);
+    lay_pointers(registers, buffer);
 }

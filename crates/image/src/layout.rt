@@ -1,69 +1,69 @@
-// The image's length, mark and version, and where it has each register; the maps follow each other, nine bytes each.
-
-// The bytes of an image.
-pub const BYTES: usize = 115;
+// The image's length, mark and version, and where it has each field, one after another; a map has nine bytes.
 
 // The mark XGS.
-pub const MARK: u32 = 0x534758;
+pub(crate) const MARK: u32 = 0x534758;
 
-pub const VERSION: u32 = 1;
+pub(crate) const VERSION: u32 = 1;
 
-pub const MARK_AT: usize = 0;
+pub(crate) const MARK_AT: usize = 0;
 
-pub const VERSION_AT: usize = 3;
+pub(crate) const VERSION_AT: usize = MARK_AT + 3;
 
-pub const SIZE_AT: usize = 5;
+pub(crate) const SIZE_AT: usize = VERSION_AT + 2;
 
-pub const STATE_AT: usize = 9;
+pub(crate) const STATE_AT: usize = SIZE_AT + 4;
 
-pub const DONE_AT: usize = 10;
+pub(crate) const DONE_AT: usize = STATE_AT + 1;
 
-pub const GONE_AT: usize = 12;
+pub(crate) const GONE_AT: usize = DONE_AT + 2;
 
-pub const COUNT_AT: usize = 14;
+pub(crate) const COUNT_AT: usize = GONE_AT + 2;
 
-pub const INDEX_AT: usize = 15;
+pub(crate) const INDEX_AT: usize = COUNT_AT + 1;
 
-pub const MASK_MAP_AT: usize = 16;
+pub(crate) const MASK_MAP_AT: usize = INDEX_AT + 1;
 
-pub const MAP_A_AT: usize = 25;
+pub(crate) const MAP_A_AT: usize = MASK_MAP_AT + 9;
 
-pub const MAP_B_AT: usize = 34;
+pub(crate) const MAP_B_AT: usize = MAP_A_AT + 9;
 
-pub const MAP_C_AT: usize = 43;
+pub(crate) const MAP_C_AT: usize = MAP_B_AT + 9;
 
-pub const E_AT: usize = 52;
+pub(crate) const E_AT: usize = MAP_C_AT + 9;
 
-pub const K1_AT: usize = 56;
+pub(crate) const K1_AT: usize = E_AT + 4;
 
-pub const K2_AT: usize = 60;
+pub(crate) const K2_AT: usize = K1_AT + 4;
 
-pub const STEPS_AT: usize = 64;
+pub(crate) const STEPS_AT: usize = K2_AT + 4;
 
-pub const FOREGROUND_MIX_AT: usize = 68;
+pub(crate) const FOREGROUND_MIX_AT: usize = STEPS_AT + 4;
 
-pub const BACKGROUND_MIX_AT: usize = 69;
+pub(crate) const BACKGROUND_MIX_AT: usize = FOREGROUND_MIX_AT + 1;
 
-pub const CONDITION_AT: usize = 70;
+pub(crate) const CONDITION_AT: usize = BACKGROUND_MIX_AT + 1;
 
-pub const VALUE_AT: usize = 71;
+pub(crate) const VALUE_AT: usize = CONDITION_AT + 1;
 
-pub const PLANES_AT: usize = 75;
+pub(crate) const PLANES_AT: usize = VALUE_AT + 4;
 
-pub const CARRIES_AT: usize = 79;
+pub(crate) const CARRIES_AT: usize = PLANES_AT + 4;
 
-pub const FOREGROUND_AT: usize = 83;
+pub(crate) const FOREGROUND_AT: usize = CARRIES_AT + 4;
 
-pub const BACKGROUND_AT: usize = 87;
+pub(crate) const BACKGROUND_AT: usize = FOREGROUND_AT + 4;
 
-pub const DIMENSIONS_AT: usize = 91;
+pub(crate) const DIMENSIONS_AT: usize = BACKGROUND_AT + 4;
 
-pub const ORIGIN_AT: usize = 95;
+pub(crate) const ORIGIN_AT: usize = DIMENSIONS_AT + 4;
 
-pub const SOURCE_AT: usize = 99;
+pub(crate) const SOURCE_AT: usize = ORIGIN_AT + 4;
 
-pub const PATTERN_AT: usize = 103;
+pub(crate) const PATTERN_AT: usize = SOURCE_AT + 4;
 
-pub const DESTINATION_AT: usize = 107;
+pub(crate) const DESTINATION_AT: usize = PATTERN_AT + 4;
 
-pub const OPERATIONS_AT: usize = 111;
+pub(crate) const OPERATIONS_AT: usize = DESTINATION_AT + 4;
+
+// The bytes of an image.
+pub const BYTES: usize = OPERATIONS_AT + 4;

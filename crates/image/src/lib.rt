@@ -2,5 +2,5 @@
 pub mod counters;
 pub mod laying;
 pub mod layout;
-pub mod places;
+pub mod reading;
 pub mod words;

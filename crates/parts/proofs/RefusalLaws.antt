@@ -5,9 +5,9 @@ use lib.Dec.{eqb}
 use Rattle.numbers.specs.Choose.{choose}
 use Rattle.parts.specs.declared.refusals.Refusal.{Refusal}
 use Rattle.parts.specs.declared.refusals.Refusal.the-variants.{Accepted, Place, Unfinished, Unlisted, Function, Fields, Mixes, Formats, Ends, Size, Image}
-use Rattle.parts.specs.Refusals.{numberOf, isAccepted}
+use Rattle.parts.specs.Refusals.{refusalNumber, isAccepted}
 
-pub number-accepted : (refusal : Refusal) → eqb (numberOf refusal) 0 ≡ isAccepted refusal
+pub number-accepted : (refusal : Refusal) → eqb (refusalNumber refusal) 0 ≡ isAccepted refusal
 number-accepted Accepted = refl
 number-accepted Place = refl
 number-accepted Unfinished = refl

@@ -5,18 +5,18 @@ use Rattle.parts.specs.declared.refusals.Refusal.{Refusal}
 use Rattle.parts.specs.declared.refusals.Refusal.the-variants.{Accepted, Place, Unfinished, Unlisted, Function, Fields, Mixes, Formats, Ends, Size, Image}
 
 -- 01, Numbers a call answers with: the paper's number, 0 for none
-abbrev pub numberOf : Refusal → ℕ
-numberOf Accepted = 0
-numberOf Place = 1
-numberOf Unfinished = 2
-numberOf Unlisted = 3
-numberOf Function = 4
-numberOf Fields = 5
-numberOf Mixes = 6
-numberOf Formats = 7
-numberOf Ends = 8
-numberOf Size = 9
-numberOf Image = 10
+abbrev pub refusalNumber : Refusal → ℕ
+refusalNumber Accepted = 0
+refusalNumber Place = 1
+refusalNumber Unfinished = 2
+refusalNumber Unlisted = 3
+refusalNumber Function = 4
+refusalNumber Fields = 5
+refusalNumber Mixes = 6
+refusalNumber Formats = 7
+refusalNumber Ends = 8
+refusalNumber Size = 9
+refusalNumber Image = 10
 
 -- 01, Numbers a call answers with: none
 abbrev pub isAccepted : Refusal → Bool

@@ -1,7 +1,7 @@
 -- The register bank: each register's offset, bytes and reduction, said once; which bytes are listed, and which reads and writes are placed.
 use Prim.Native.Nat.{ℕ, zero, suc, _+_, _%_}
 use mathlib.Core.Bool.{Bool, true, false, _&&_, _||_}
-use mathlib.Core.List.{List, [], _∷_}
+use mathlib.Core.List.{List, [], _∷_, _++_}
 use lib.Dec.{leb, ltb, eqb}
 
 -- 01, Registers: what the stored bytes are reduced to: all of them, so many low bits, or a number modulo size, into -low to size - low - 1
@@ -150,15 +150,22 @@ destinationY = coordinate 0x7A
 abbrev pub pixelOperations : Register
 pixelOperations = whole 4 0x7C
 
--- 01, Registers: every listed register
-unfoldable pub registers : List Register
-registers =
-    mapIndex ∷ mapBase ∷ mapWidth ∷ mapHeight ∷ mapFormat
-    ∷ errorTerm ∷ firstConstant ∷ secondConstant ∷ directionSteps
+-- 01, Registers: the map index, and those of the map that it selects
+unfoldable pub selected : List Register
+selected = mapIndex ∷ mapBase ∷ mapWidth ∷ mapHeight ∷ mapFormat ∷ []
+
+-- 01, Registers: every other register
+unfoldable pub others : List Register
+others =
+    errorTerm ∷ firstConstant ∷ secondConstant ∷ directionSteps
     ∷ foregroundMix ∷ backgroundMix ∷ compareCondition ∷ compareValue ∷ planeMask ∷ carryMask ∷ foregroundColour ∷ backgroundColour
     ∷ dimension1 ∷ dimension2
     ∷ originX ∷ originY ∷ sourceX ∷ sourceY ∷ patternX ∷ patternY ∷ destinationX ∷ destinationY ∷ pixelOperations
     ∷ []
+
+-- 01, Registers: every listed register
+unfoldable pub registers : List Register
+registers = selected ++ others
 
 -- ---- listed and placed
 

@@ -1,5 +1,5 @@
 ghost use mathlib.Core.Path.{_≡_};
-ghost use Rattle.parts.specs.Refusals.{numberOf, isAccepted};
+ghost use Rattle.parts.specs.Refusals.{refusalNumber, isAccepted};
 
 // The answers by number, in the paper's order; `Accepted` is no refusal.
 pub enum Refusal {
@@ -18,7 +18,7 @@ pub enum Refusal {
 
 // The number that a call answers with.
 pub fn number(refusal: Refusal) -> u32
-    ensures { λ r. ⌜ r ≡ numberOf refusal ⌝ }
+    ensures { λ r. ⌜ r ≡ refusalNumber refusal ⌝ }
 {
     match refusal {
         Refusal::Accepted => 0,

@@ -13,7 +13,7 @@ use Rattle.numbers.specs.Bytes.{le}
 use Rattle.numbers.specs.declared.bytes.Write.{Write}
 use Rattle.numbers.proofs.Choices.{by-test}
 use Rattle.parts.specs.declared.refusals.Refusal.{Refusal}
-use Rattle.parts.specs.Refusals.{isAccepted, numberOf}
+use Rattle.parts.specs.Refusals.{isAccepted, refusalNumber}
 use Rattle.parts.proofs.RefusalLaws.{number-accepted}
 use Rattle.image.specs.Fields.{Field, laid}
 use Rattle.coprocessor.specs.declared.Coprocessor.{Coprocessor}
@@ -107,13 +107,13 @@ image-written image w bytes e =
 -- ---- a run
 
 -- a refusal and a value of 32 bits are the two halves of their answer
-answer-halves : (r : Refusal) (v : ℕ) → v < 2 ^ 32 → (refusalIn (answerOf r v) ≡ numberOf r) × (valueIn (answerOf r v) ≡ v)
+answer-halves : (r : Refusal) (v : ℕ) → v < 2 ^ 32 → (refusalIn (answerOf r v) ≡ refusalNumber r) × (valueIn (answerOf r v) ≡ v)
 unfolding answerOf refusalIn valueIn
-answer-halves r v small = (digits-div (numberOf r) small, digits-mod (numberOf r) small)
+answer-halves r v small = (digits-div (refusalNumber r) small, digits-mod (refusalNumber r) small)
 
 -- what a run answers, for an image that loads
 pub image-run-answer : (image memory : List ℕ) (n : ℕ) → n < 2 ^ 32 → loads image ≡ true
-    → (refusalIn (runNumber image memory n) ≡ numberOf (runAnswer (loaded image) memory n .refusal))
+    → (refusalIn (runNumber image memory n) ≡ refusalNumber (runAnswer (loaded image) memory n .refusal))
     × (valueIn (runNumber image memory n) ≡ runAnswer (loaded image) memory n .done)
 unfolding runNumber
 image-run-answer image memory n small e =
@@ -121,8 +121,8 @@ image-run-answer image memory n small e =
     rw e (answer-halves (runAnswer (loaded image) memory n .refusal) (runAnswer (loaded image) memory n .done) (omega (arith, few)))
 
 -- a number above 0 is a refusal
-refused-number : (r : Refusal) → (numberOf r ≡ 0 → ⊥) → isAccepted r ≡ false
-refused-number r some = sym (number-accepted r) ∙ ne-eqb (numberOf r) 0 some
+refused-number : (r : Refusal) → (refusalNumber r ≡ 0 → ⊥) → isAccepted r ≡ false
+refused-number r some = sym (number-accepted r) ∙ ne-eqb (refusalNumber r) 0 some
 
 pub memory-ran : (image memory : List ℕ) (n : ℕ) → loads image ≡ true → runBytes image memory n ≡ runMemory (loaded image) memory n
 unfolding runBytes
@@ -154,7 +154,7 @@ pub image-run-done : (image memory : List ℕ) (n : ℕ) → loads image ≡ tru
 unfolding runNumber answerOf runAnswer
 image-run-done image memory n e same =
     let accepted = accepts (loaded image) memory same (loaded-valid image e) in
-    let none : numberOf (runRefusal (loaded image) memory) ≡ 0 = eqb-true _ 0 (number-accepted (runRefusal (loaded image) memory) ∙ accepted) in
+    let none : refusalNumber (runRefusal (loaded image) memory) ≡ 0 = eqb-true _ 0 (number-accepted (runRefusal (loaded image) memory) ∙ accepted) in
     let done = run-done (loaded image) memory accepted n in
     rw e (omega (arith, none, done))
 

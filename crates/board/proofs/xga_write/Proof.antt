@@ -1,7 +1,7 @@
 -- `xga_write` is the write of the record that the image is, saved back, or refusal 10 and the image as it was.
 use mathlib.Core.Path.{_≡_, sym, ap, _∙_}
 use borrow.Author.Tests.{not-true, not-false}
-use Rattle.parts.specs.Refusals.{isAccepted, numberOf}
+use Rattle.parts.specs.Refusals.{isAccepted, refusalNumber}
 use Rattle.coprocessor.specs.declared.Written.{Written}
 use Rattle.coprocessor.specs.Writes.{writeAnswer}
 use Rattle.coprocessor.specs.Images.{loads, loaded, saved}
@@ -48,7 +48,7 @@ same-length-2 c = search needs
 returns-2 : tie.Need-returns-2
 unfolding writeNumber writeImage
 returns-2 c = let fine = sym (opened (c .before .before .before .before .before .before .before .before .before)) ∙ not-false _ (c .before .before .before .before .before .before .before .before .if1 .left) in
-    (simp fine (c .number .ensures ∙ ap (λ (a : Written). numberOf (a .refusal)) (written (c .before .before .before .before .before .before))), simp fine (c .before .before .before .save .ensures .1 ∙ ap (λ (a : Written). saved (a .coprocessor) (c .before .before .before .before .before .before .before .before .before .before .before .before .before .args .image .now)) (written (c .before .before .before .before .before .before))))
+    (simp fine (c .number .ensures ∙ ap (λ (a : Written). refusalNumber (a .refusal)) (written (c .before .before .before .before .before .before))), simp fine (c .before .before .before .save .ensures .1 ∙ ap (λ (a : Written). saved (a .coprocessor) (c .before .before .before .before .before .before .before .before .before .before .before .before .before .args .image .now)) (written (c .before .before .before .before .before .before))))
 
 pub xga-write-spec : {M : Type 1} → statement M
 xga-write-spec =

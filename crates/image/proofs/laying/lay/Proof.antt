@@ -1,4 +1,4 @@
--- `lay` lays the image: the head, the maps and the bank follow each other and fill the buffer.
+-- `lay` lays the image: the head, the maps and the registers follow each other and fill the buffer.
 use Rattle.image.proofs.LayLaws.{lay-fields}
 use borrow.Author.Needs.{needs}
 use Rattle.image.proofs.laying.lay.Statement.{statement}
@@ -13,14 +13,21 @@ lay-head-requires c κs = search needs
 lay-maps-requires : tie.Need-lay-maps-requires
 lay-maps-requires c κs = search needs
 
-lay-bank-requires : tie.Need-lay-bank-requires
-lay-bank-requires c κs = search needs
+lay-figure-requires : tie.Need-lay-figure-requires
+lay-figure-requires c κs = search needs
+
+lay-pointers-requires : tie.Need-lay-pointers-requires
+lay-pointers-requires c κs = search needs
 
 same-length : tie.Need-same-length
 same-length c = search needs
 
 returns : tie.Need-returns
-returns c = rw (c .before .before .lay-bank .ensures, c .before .before .before .before .before .before .lay-maps .ensures, c .before .before .before .before .before .before .before .before .before .before .lay-head .ensures, c .before .before .before .before .before .before .before .before .before .before .before .before .counters-of .ensures) (lay-fields _ _ _ _ _ _ (c .before .before .before .before .before .before .before .before .before .before .before .before .before .before .pre))
+returns c =
+    let maps = c .before .before .before .before .before .before .before .before .before .before in
+    let head = maps .before .before .before .before in
+    rw (c .before .before .lay-pointers .ensures, c .before .before .before .before .before .before .lay-figure .ensures, maps .lay-maps .ensures, head .lay-head .ensures, head .before .before .counters-of .ensures)
+    (lay-fields _ _ _ _ _ (head .before .before .before .before .pre))
 
 pub lay-spec : {M : Type 1} → statement M
 lay-spec =
@@ -29,6 +36,7 @@ lay-spec =
     counters-of-requires
     lay-head-requires
     lay-maps-requires
-    lay-bank-requires
+    lay-figure-requires
+    lay-pointers-requires
     same-length
     returns)

@@ -1,4 +1,4 @@
--- `lay_maps` lays the four maps: they follow each other from byte 16 on.
+-- `lay_maps` lays the four maps: each is as long as the next begins after it.
 use Rattle.rules.specs.Maps.{mapAt}
 use Rattle.image.proofs.LayLaws.{lay-maps}
 use borrow.Author.Needs.{needs}
@@ -34,7 +34,9 @@ same-length c = search needs
 
 returns : tie.Need-returns
 unfolding mapAt
-returns c = rw (c .before .before .lay-map4 .ensures, c .before .before .before .before .before .before .before .lay-map3 .ensures, c .before .before .before .before .before .before .before .before .before .before .before .before .lay-map2 .ensures, c .before .before .before .before .before .before .before .before .before .before .before .before .before .before .before .before .before .lay-map .ensures) (lay-maps _ _)
+returns c =
+    let third = c .before .before .before .before .before .before .before in
+    rw (c .before .before .lay-map4 .ensures, third .lay-map3 .ensures, third .before .before .before .before .before .lay-map2 .ensures, third .before .before .before .before .before .before .before .before .before .before .lay-map .ensures) (lay-maps _ _)
 
 pub lay-maps-spec : {M : Type 1} → statement M
 lay-maps-spec =

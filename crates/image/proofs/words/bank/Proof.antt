@@ -1,47 +1,116 @@
--- `bank` is the four parts put into a bank of zeros.
-use Rattle.image.specs.Words.{bankOf}
+-- `bank` has the bytes of every register at its offset: word by word those of its registers.
+use mathlib.Core.Path.{ap, _∙_}
+use mathlib.Core.List.{_++_}
+use lib.ListN.{replicate}
+use mir.Syntax.{w32}
+use mir.ValLaws.{toZ-ofZ}
+use Rattle.numbers.specs.Bytes.{le}
+use Rattle.parts.specs.Registers.{selected, others, registers}
+use Rattle.image.specs.Bank.{mapValues, otherValues, valuesOf, laidAt, bankOf}
+use Rattle.image.specs.Inner.{mixBytes, pointBytes, spotBytes, wordBytes}
 use borrow.Author.Needs.{needs}
 use Rattle.image.proofs.words.bank.Statement.{statement}
 use Rattle.image.proofs.words.bank.Tie as tie
 
-slice-aggregate-put : tie.Need-slice-aggregate-put
-slice-aggregate-put c = search needs
+cast-map-at : tie.Need-cast-map-at
+cast-map-at c = search needs
 
-put-requires : tie.Need-put-requires
-put-requires c κs = search needs
+map-at-requires : tie.Need-map-at-requires
+map-at-requires c κs = search needs
 
-slice-aggregate-put-2 : tie.Need-slice-aggregate-put-2
-slice-aggregate-put-2 c = search needs
+index-word-requires : tie.Need-index-word-requires
+index-word-requires c κs = search needs
 
-put-requires-2 : tie.Need-put-requires-2
-put-requires-2 c κs = search needs
+size-word-requires : tie.Need-size-word-requires
+size-word-requires c κs = search needs
 
-slice-aggregate-put-3 : tie.Need-slice-aggregate-put-3
-slice-aggregate-put-3 c = search needs
+format-word-requires : tie.Need-format-word-requires
+format-word-requires c κs = search needs
 
-put-requires-3 : tie.Need-put-requires-3
-put-requires-3 c κs = search needs
+word-requires : tie.Need-word-requires
+word-requires c κs = search needs
 
-slice-aggregate-put-4 : tie.Need-slice-aggregate-put-4
-slice-aggregate-put-4 c = search needs
+word-requires-2 : tie.Need-word-requires-2
+word-requires-2 c κs = search needs
 
-put-requires-4 : tie.Need-put-requires-4
-put-requires-4 c κs = search needs
+word-requires-3 : tie.Need-word-requires-3
+word-requires-3 c κs = search needs
+
+mixes-word-requires : tie.Need-mixes-word-requires
+mixes-word-requires c κs = search needs
+
+point-word-requires : tie.Need-point-word-requires
+point-word-requires c κs = search needs
+
+point-word-requires-2 : tie.Need-point-word-requires-2
+point-word-requires-2 c κs = search needs
+
+point-word-requires-3 : tie.Need-point-word-requires-3
+point-word-requires-3 c κs = search needs
+
+point-word-requires-4 : tie.Need-point-word-requires-4
+point-word-requires-4 c κs = search needs
+
+spot-word-requires : tie.Need-spot-word-requires
+spot-word-requires c κs = search needs
 
 returns : tie.Need-returns
-unfolding bankOf
-returns c = rw (c .put4 .ensures, c .before .before .put3 .ensures, c .before .before .before .before .put2 .ensures, c .before .before .before .before .before .before .put .ensures)
+unfolding le wordBytes mixBytes pointBytes spotBytes selected others registers mapValues otherValues valuesOf laidAt bankOf
+returns c =
+    let mixes = c .before .before .before .before .before in
+    let terms = mixes .before in
+    let words = mixes .before .before .before .before .before .before .before in
+    let map = words .before .before .before .before .before .before .before .before .before .before .map-at .ensures in
+    let args = words .before .before .before .before .before .before .before .before .before .before .before .before .args in
+    let r = args .registers in
+    let k1 = terms .before .before in
+    let e = k1 .before .before in
+    let size = words .before .size-word .ensures ∙ (λ i. le 2 (map i .width) ++ le 2 (map i .height)) in
+    let format = words .format-word .ensures ∙ (λ i. le 1 (map i .format) ++ replicate 3 0) in
+    let third = ap (le 4) (rw (toZ-ofZ w32 (r .terms .k2) (search (needs, terms .before .struct-told3 .given))) at (terms .word3 .ensures)) in
+    let second = ap (le 4) (rw (toZ-ofZ w32 (r .terms .k1) (search (needs, k1 .before .struct-told2 .given))) at (k1 .word2 .ensures)) in
+    let first = ap (le 4) (rw (toZ-ofZ w32 (r .terms .e) (search (needs, e .before .struct-told .given))) at (e .word .ensures)) in
+    λ i.
+    replicate 16 0
+    ++ words .before .before .index-word .ensures i
+    ++ le 4 (map i .base)
+    ++ size i
+    ++ format i
+    ++ first i
+    ++ second i
+    ++ third i
+    ++ le 4 (r .figure .steps)
+    ++ replicate 24 0
+    ++ mixes .mixes-word .ensures i
+    ++ le 4 (r .colours .compare .value)
+    ++ le 4 (r .colours .planes)
+    ++ le 4 (r .colours .carries)
+    ++ le 4 (r .colours .foreground .colour)
+    ++ le 4 (r .colours .background .colour)
+    ++ c .before .before .before .before .point-word .ensures i
+    ++ replicate 8 0
+    ++ c .before .before .before .point-word2 .ensures i
+    ++ c .before .before .point-word3 .ensures i
+    ++ c .before .point-word4 .ensures i
+    ++ c .spot-word .ensures i
+    ++ le 4 (r .figure .operations)
 
 pub bank-spec : {M : Type 1} → statement M
 bank-spec =
     tie.close
     (tie.spec
-    slice-aggregate-put
-    put-requires
-    slice-aggregate-put-2
-    put-requires-2
-    slice-aggregate-put-3
-    put-requires-3
-    slice-aggregate-put-4
-    put-requires-4
+    cast-map-at
+    map-at-requires
+    index-word-requires
+    size-word-requires
+    format-word-requires
+    word-requires
+    word-requires-2
+    word-requires-3
+    mixes-word-requires
+    point-word-requires
+    point-word-requires-2
+    point-word-requires-3
+    point-word-requires-4
+    spot-word-requires
     returns)

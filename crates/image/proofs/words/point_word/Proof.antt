@@ -1,5 +1,7 @@
--- `point_word` is two registers of two bytes: both fit one word.
-use Rattle.image.specs.Words.{pointWord}
+-- `point_word` has the two bytes of each number, one after the other.
+use native.Mathlib.Omega.{arith}
+use Rattle.image.specs.Inner.{pointBytes}
+use Rattle.image.proofs.WordLaws.{halves}
 use borrow.Author.Needs.{needs}
 use Rattle.image.proofs.words.point_word.Statement.{statement}
 use Rattle.image.proofs.words.point_word.Tie as tie
@@ -17,8 +19,8 @@ add-result : tie.Need-add-result
 add-result c = search needs
 
 returns : tie.Need-returns
-unfolding pointWord
-returns c = search needs
+unfolding pointBytes
+returns c = halves _ _ (omega (arith, c .before .struct-known .given)) (omega (arith, c .struct-known2 .given))
 
 pub point-word-spec : {M : Type 1} → statement M
 point-word-spec = tie.close (tie.spec cast-result cast-result-2 mul-result add-result returns)

@@ -1,5 +1,6 @@
--- `size_word` is width and height: both fit one word.
-use Rattle.image.specs.Words.{sizeWord}
+-- `size_word` has the two bytes of width and height, one after the other.
+use native.Mathlib.Omega.{arith}
+use Rattle.image.proofs.WordLaws.{halves}
 use borrow.Author.Needs.{needs}
 use Rattle.image.proofs.words.size_word.Statement.{statement}
 use Rattle.image.proofs.words.size_word.Tie as tie
@@ -17,8 +18,7 @@ add-result : tie.Need-add-result
 add-result c = search needs
 
 returns : tie.Need-returns
-unfolding sizeWord
-returns c = search needs
+returns c = halves _ _ (omega (arith, c .before .struct-known .given)) (omega (arith, c .struct-known2 .given))
 
 pub size-word-spec : {M : Type 1} → statement M
 size-word-spec = tie.close (tie.spec cast-result cast-result-2 mul-result add-result returns)

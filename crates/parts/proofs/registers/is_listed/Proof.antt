@@ -3,7 +3,7 @@ use mathlib.Core.Path.{refl, _∙_}
 use Prim.Native.Nat.{_-_}
 use native.Mathlib.Omega.{arith}
 use borrow.Author.Needs.{needs}
-use Rattle.parts.specs.Registers.{registers, among, listed}
+use Rattle.parts.specs.Registers.{selected, others, registers, among, listed}
 use Rattle.parts.proofs.Every.{every}
 use Rattle.parts.proofs.RegisterLaws.{agrees, half-listed}
 use Rattle.parts.proofs.registers.is_listed.Statement.{statement}
@@ -16,13 +16,13 @@ all-set-requires-2 : tie.Need-all-set-requires-2
 all-set-requires-2 c κs = search needs
 
 returns : tie.Need-returns
-unfolding registers among listed every agrees
+unfolding selected others registers among listed every agrees
 returns c =
     let at = c .before .before .args in
     c .all-set .ensures ∙ half-listed _ 0 refl (at .offset) (at .length) (at .offset) (omega arith) (omega arith) (omega arith)
 
 returns-2 : tie.Need-returns-2
-unfolding registers among listed every agrees
+unfolding selected others registers among listed every agrees
 returns-2 c =
     let at = c .before .before .args in
     c .all-set2 .ensures ∙ half-listed _ 64 refl (at .offset - 64) (at .length) (at .offset) (omega arith) (omega arith) (omega arith)

@@ -1,0 +1,49 @@
+-- `mixes_word` has the bytes of the mixes and the condition, and one of 0.
+use native.Mathlib.Omega.{arith}
+use lib.Dec.{lit<}
+use Rattle.numbers.specs.Bytes.{le}
+use Rattle.image.specs.Inner.{mixBytes}
+use Rattle.image.proofs.WordLaws.{digits}
+use borrow.Author.Needs.{needs}
+use Rattle.image.proofs.words.mixes_word.Statement.{statement}
+use Rattle.image.proofs.words.mixes_word.Tie as tie
+
+cast-result : tie.Need-cast-result
+cast-result c = search needs
+
+cast-result-2 : tie.Need-cast-result-2
+cast-result-2 c = search needs
+
+mul-result : tie.Need-mul-result
+mul-result c = search needs
+
+add-result : tie.Need-add-result
+add-result c = search needs
+
+cast-result-3 : tie.Need-cast-result-3
+cast-result-3 c = search needs
+
+mul-result-2 : tie.Need-mul-result-2
+mul-result-2 c = search needs
+
+add-result-2 : tie.Need-add-result-2
+add-result-2 c = search needs
+
+returns : tie.Need-returns
+unfolding le mixBytes
+returns c =
+    digits _ _ _ 0 _ (omega arith) (omega arith) (omega arith) (lit< tt)
+    (omega (arith, c .struct-known3 .given, c .before .struct-known2 .given, c .before .before .struct-known .given))
+
+pub mixes-word-spec : {M : Type 1} → statement M
+mixes-word-spec =
+    tie.close
+    (tie.spec
+    cast-result
+    cast-result-2
+    mul-result
+    add-result
+    cast-result-3
+    mul-result-2
+    add-result-2
+    returns)
