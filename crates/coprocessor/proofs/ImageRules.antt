@@ -9,7 +9,7 @@ use lib.ListN.{length}
 use borrow.Author.Tests.{eqb-true, eq-eqb, eqb-false, le-leb, lt-leb}
 use Rattle.numbers.specs.Choose.{choose}
 use Rattle.numbers.proofs.Choices.{by-test, and-left, and-right, and-both}
-use Rattle.parts.specs.declared.shapes.Point.{Point}
+use Rattle.parts.specs.declared.shapes.Figure.{Figure}
 use Rattle.parts.specs.declared.drawing.Drawing.{Drawing}
 use Rattle.parts.specs.Refusals.{isAccepted}
 use Rattle.parts.specs.Drawings.{unfinished}
@@ -17,7 +17,8 @@ use Rattle.rules.specs.Operations.{isLine, isCodes}
 use Rattle.rules.specs.Going.{countersHold, pointersHold}
 use Rattle.image.specs.Counters.{countersOf, drawingOf}
 use Rattle.image.specs.Inner.{sameCounters}
-use Rattle.image.specs.Places.{at, countersFrom}
+use Rattle.image.specs.Layout.{at, imageLength}
+use Rattle.image.specs.Read.{countersFrom}
 use Rattle.coprocessor.specs.declared.Coprocessor.{Coprocessor}
 use Rattle.coprocessor.specs.Fresh.{sizeHolds}
 use Rattle.coprocessor.specs.Valid.{startRefusalOf, reducedOf, goesOn, validOf}
@@ -61,18 +62,18 @@ codes-state n = by (eqb n 3) refl
     by true three = rw (eqb-true n 3 three)
     by false other = rw (or-false, and-true)
 
-module _ (b : List ℕ) (operations : ℕ) (dimensions : Point) (steps : ℕ) (accepted inside : Bool) where
+module _ (b : List ℕ) (f : Figure) (accepted inside : Bool) where
   -- whether bytes 9 to 14 are the counters of this drawing
   abbrev counted : Drawing → Bool
   counted d = sameCounters (countersFrom b) (countersOf d)
 
   -- whether this drawing can go on
   abbrev goes : Drawing → Bool
-  goes d = not (unfinished d) || (countersHold operations dimensions steps d && accepted && inside)
+  goes d = not (unfinished d) || (countersHold f d && accepted && inside)
 
   -- what the rules ask in states 1 and 3
   abbrev asked : Bool
-  asked = accepted && remains operations dimensions steps b && inside
+  asked = accepted && remains f b && inside
 
   -- what the rules ask by the state
   abbrev rest : Bool
@@ -80,7 +81,7 @@ module _ (b : List ℕ) (operations : ℕ) (dimensions : Point) (steps : ℕ) (a
 
   -- the drawing that bytes 9 to 14 make
   abbrev drawn : Drawing
-  drawn = drawingOf operations (countersFrom b)
+  drawn = drawingOf (f .operations) (countersFrom b)
 
   by-state : (counted drawn && goes drawn) ≡ (leb (at 9 1 b) 3 && rest)
   unfolding sameCounters countersFrom countersOf drawingOf countersHold remains zeroCounters
@@ -93,12 +94,13 @@ module _ (b : List ℕ) (operations : ℕ) (dimensions : Point) (steps : ℕ) (a
       by-test Same (eqb (at 9 1 b) 0) (λ idle. rw (eqb-true (at 9 1 b) 0 idle, and-true)) (λ no-zero.
       by-test Same (eqb (at 9 1 b) 2) (λ stopped. rw (eqb-true (at 9 1 b) 2 stopped, and-true)) (λ no-two.
       let state = drawing-state (at 9 1 b) asked (zeroCounters b) no-zero no-two in
-      by-test Same (isLine operations) (λ line. rw (state, line, bit, done) (same _ _ (λ h. search parts) (λ h. search parts)))
-      (λ no-line. by-test Same (isCodes operations)
+      by-test Same (isLine (f .operations)) (λ line. rw (state, line, bit, done) (same _ _ (λ h. search parts) (λ h. search parts)))
+      (λ no-line. by-test Same (isCodes (f .operations))
       (λ codes. rw (state, no-line, codes, codes-state (at 9 1 b), done, gone, count) (same _ _ (λ h. search parts) (λ h. search parts)))
       (λ no-codes. rw (state, no-line, no-codes, bit, done, gone) (same _ _ (λ h. search parts) (λ h. search parts))))))
 
-  whole : (head size reduced : Bool) → (head && counted drawn && (size && reduced && goes drawn)) ≡ (head && size && leb (at 9 1 b) 3 && reduced && rest)
+  whole : (head size reduced : Bool)
+      → (head && counted drawn && (size && reduced && goes drawn)) ≡ (head && size && leb (at 9 1 b) 3 && reduced && rest)
   whole head size reduced =
       same _ _
       (λ h. let t : (leb (at 9 1 b) 3 && rest) ≡ true = sym by-state ∙ search parts in search parts)
@@ -108,5 +110,5 @@ pub loads-by : (b : List ℕ) → loadsBy b ≡ loads b
 unfolding loadsBy loads loaded validOf goesOn
 loads-by b =
     let c : Coprocessor = loaded b in
-    whole b (c .operations) (c .dimensions) (c .steps) (isAccepted (startRefusalOf c)) (pointersHold (c .operations) (c .maps) (c .source) (c .pattern))
-    (eqb (length b) 115 && eqb (at 0 3 b) 0x534758 && eqb (at 3 2 b) 1) (sizeHolds (at 5 4 b)) (reducedOf c)
+    whole b (c .registers .figure) (isAccepted (startRefusalOf c)) (pointersHold (c .registers .figure .operations) (c .maps) (c .registers .pointers))
+    (eqb (length b) imageLength && eqb (at 0 3 b) 0x534758 && eqb (at 3 2 b) 1) (sizeHolds (at 5 4 b)) (reducedOf c)

@@ -1,5 +1,4 @@
 pub mod PlaceLaws
 pub mod WriteLaws
 pub mod ImageRules
-pub mod SafeLaws
 pub mod Opened

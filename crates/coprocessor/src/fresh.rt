@@ -3,13 +3,8 @@ ghost use Rattle.coprocessor.specs.Fresh.{sizeHolds, freshOf, freshAnswe
 use crate::Coprocessor;
 use crate::Written;
 use parts::drawing::Drawing;
-use parts::reduced::both;
+use parts::fresh::zero_registers;
 use parts::refusals::Refusal;
-use parts::shapes::Compare;
-use parts::shapes::Ink;
-use parts::shapes::Point;
-use parts::shapes::Spot;
-use parts::shapes::Terms;
 use pixels::Map;
 
 // The largest memory, in bytes.
@@ -19,7 +14,7 @@ const LARGEST: u32 = 1048576;
 pub(crate) fn size_holds(size: u32) -> bool
     ensures { λ r. ⌜ r ≡ sizeHolds size ⌝ }
 {
-    both(1 <= size, size <= LARGEST)
+    (1 <= size) & (size <= LARGEST)
 }
 
 // All registers zero, idle and not stopped, over a memory of this size.
@@ -32,28 +27,10 @@ fn zero(size: u32) -> Coprocessor
         height: 0,
         format: 0,
     };
-    let ink = Ink { mix: 0, colour: 0 };
-    let point = Point { x: 0, y: 0 };
     Coprocessor {
         size,
-        index: 0,
         maps: [map, map, map, map],
-        terms: Terms { e: 0, k1: 0, k2: 0 },
-        steps: 0,
-        foreground: ink,
-        background: ink,
-        compare: Compare {
-            condition: 0,
-            value: 0,
-        },
-        planes: 0,
-        carries: 0,
-        dimensions: point,
-        origin: point,
-        source: point,
-        pattern: point,
-        destination: Spot { x: 0, y: 0 },
-        operations: 0,
+        registers: zero_registers(),
         drawing: Drawing::Nothing { stopped: false },
     }
 }

@@ -1,14 +1,10 @@
 ghost use mathlib.Core.Path.{_≡_};
-ghost use Rattle.coprocessor.specs.Valid.{startRefusalOf, mapsReduced, pointersReduced, reducedOf, goesOn, validOf};
+ghost use Rattle.coprocessor.specs.Valid.{startRefusalOf, mapsReduced, reducedOf, goesOn, validOf};
 use crate::Coprocessor;
 use crate::fresh::size_holds;
 use parts::drawing::is_unfinished;
-use parts::reduced::both;
-use parts::reduced::compare_is_reduced;
 use parts::reduced::map_is_reduced;
-use parts::reduced::point_is_reduced;
-use parts::reduced::spot_is_reduced;
-use parts::reduced::terms_are_reduced;
+use parts::reduced::registers_are_reduced;
 use parts::refusals::Refusal;
 use parts::refusals::accepts;
 use pixels::Map;
@@ -24,7 +20,7 @@ fn maps_are_reduced(maps: [Map; 4]) -> bool
     let a = map_is_reduced(maps[1]);
     let b = map_is_reduced(maps[2]);
     let c = map_is_reduced(maps[3]);
-    both(both(both(mask, a), b), c)
+    mask & a & b & c
 }
 
 impl Coprocessor {
@@ -32,30 +28,9 @@ impl Coprocessor {
     pub(crate) fn start_refusal(self) -> Refusal
         ensures { λ r. ⌜ r ≡ startRefusalOf self ⌝ }
     {
-        let foreground = self.foreground;
-        let background = self.background;
         let maps = self.maps;
-        start_refusal(
-            self.operations,
-            foreground.mix,
-            background.mix,
-            maps,
-            self.size,
-        )
-    }
-
-    // Whether every pointer is reduced.
-    fn has_reduced_pointers(self) -> bool
-        ensures { λ r. ⌜ r ≡ pointersReduced self ⌝ }
-    {
-        let dimensions = self.dimensions;
-        let origin = self.origin;
-        let source = self.source;
-        let pattern = self.pattern;
-        let destination = self.destination;
-        let held = both(point_is_reduced(dimensions), point_is_reduced(origin));
-        let moved = both(point_is_reduced(source), point_is_reduced(pattern));
-        both(both(held, moved), spot_is_reduced(destination))
+        let registers = self.registers;
+        start_refusal(self.size, maps, registers)
     }
 
     // Whether every reduction holds.
@@ -63,11 +38,8 @@ impl Coprocessor {
         ensures { λ r. ⌜ r ≡ reducedOf self ⌝ }
     {
         let maps = self.maps;
-        let terms = self.terms;
-        let compare = self.compare;
-        let chosen = both(self.index < 4, maps_are_reduced(maps));
-        let worked = both(terms_are_reduced(terms), compare_is_reduced(compare));
-        both(both(chosen, worked), self.has_reduced_pointers())
+        let registers = self.registers;
+        maps_are_reduced(maps) & registers_are_reduced(registers)
     }
 
     // Whether the drawing in hand, if there is one, can go on.
@@ -78,25 +50,18 @@ impl Coprocessor {
         if !is_unfinished(drawing) {
             return true;
         }
-        let dimensions = self.dimensions;
-        let counted = counters_hold(self.operations, dimensions, self.steps, drawing);
-        let accepted = accepts(self.start_refusal());
+        let figure = self.registers.figure;
         let maps = self.maps;
-        let source = self.source;
-        let pattern = self.pattern;
-        both(
-            both(counted, accepted),
-            pointers_hold(self.operations, maps, source, pattern),
-        )
+        let pointers = self.registers.pointers;
+        counters_hold(figure, drawing)
+            & accepts(self.start_refusal())
+            & pointers_hold(figure.operations, maps, pointers)
     }
 
     // Whether the record is the one that its own image loads to.
     pub(crate) fn is_valid(self) -> bool
         ensures { λ r. ⌜ r ≡ validOf self ⌝ }
     {
-        both(
-            both(size_holds(self.size), self.is_reduced()),
-            self.goes_on(),
-        )
+        size_holds(self.size) & self.is_reduced() & self.goes_on()
     }
 }

@@ -1,34 +1,30 @@
 ghost use mathlib.Core.Path.{_≡_};
+ghost use mathlib.Core.Bool.{true};
 ghost use Prim.Native.Nat.{_%_};
 ghost use lib.ListN.{set};
-ghost use Rattle.parts.specs.Shapes.{mapTaken};
+ghost use Rattle.parts.specs.Latches.{mapLatched};
 ghost use Rattle.rules.specs.Maps.{mapAt};
+ghost use Rattle.coprocessor.specs.Valid.{validOf};
 ghost use Rattle.coprocessor.specs.Writes.{stored, writeRefusal, writeAnswer};
+ghost use Rattle.coprocessor.specs.Inner.{lowerRefusal};
 use crate::Coprocessor;
 use crate::Written;
 use crate::starts::OPERATIONS_START;
 use numbers::bytes::Write;
 use parts::drawing::is_unfinished;
-use parts::latches::take_bits;
-use parts::latches::take_word;
-use parts::latches::touches;
-use parts::reduced::both;
+use parts::latches::latch_map;
+use parts::latches::latch_registers;
 use parts::refusals::Refusal;
 use parts::refusals::accepts;
 use parts::registers::is_listed;
 use parts::registers::is_placed;
-use parts::shapes::latch_compare;
-use parts::shapes::latch_ink;
-use parts::shapes::latch_map;
-use parts::shapes::latch_point;
-use parts::shapes::latch_spot;
-use parts::shapes::latch_terms;
+use parts::takes::touches;
 use pixels::Map;
 use rules::operations::draws;
 
 // The maps after the write: the selected one takes its bytes.
 fn latch_maps(maps: [Map; 4], index: u8, w: Write) -> [Map; 4]
-    ensures { λ r. ⌜ r ≡ set maps (index % 4) (mapTaken w (mapAt maps index)) ⌝ }
+    ensures { λ r. ⌜ r ≡ set maps (index % 4) (mapLatched w (mapAt maps index)) ⌝ }
 {
     let i = (index % 4) as usize;
     let mut latched = maps;
@@ -43,41 +39,20 @@ impl Coprocessor {
         ensures { λ r. ⌜ r ≡ stored w self ⌝ }
     {
         let maps = self.maps;
-        let terms = self.terms;
-        let foreground = self.foreground;
-        let background = self.background;
-        let compare = self.compare;
-        let dimensions = self.dimensions;
-        let origin = self.origin;
-        let source = self.source;
-        let pattern = self.pattern;
-        let destination = self.destination;
+        let registers = self.registers;
         let drawing = self.drawing;
         Coprocessor {
             size: self.size,
-            index: take_bits(2, self.index, 0x12, w),
-            maps: latch_maps(maps, self.index, w),
-            terms: latch_terms(terms, w),
-            steps: take_word(self.steps, 0x2C, w),
-            foreground: latch_ink(foreground, 0x48, 0x58, w),
-            background: latch_ink(background, 0x49, 0x5C, w),
-            compare: latch_compare(compare, w),
-            planes: take_word(self.planes, 0x50, w),
-            carries: take_word(self.carries, 0x54, w),
-            dimensions: latch_point(dimensions, 0x60, w),
-            origin: latch_point(origin, 0x6C, w),
-            source: latch_point(source, 0x70, w),
-            pattern: latch_point(pattern, 0x74, w),
-            destination: latch_spot(destination, w),
-            operations: take_word(self.operations, 0x7C, w),
+            maps: latch_maps(maps, registers.index, w),
+            registers: latch_registers(registers, w),
             drawing,
         }
     }
 
-    // The refusal of a write, if any, where `next` is the record with the write stored.
-    fn write_refusal(self, w: Write, next: Coprocessor) -> Refusal
+    // The refusal of a write among 1 to 8, if any, where `next` is the record with the write stored.
+    fn lower_refusal(self, w: Write, next: Coprocessor) -> Refusal
         requires { ⌜ next ≡ stored w self ⌝ }
-        ensures { λ r. ⌜ r ≡ writeRefusal w self ⌝ }
+        ensures { λ r. ⌜ r ≡ lowerRefusal w self ⌝ }
     {
         let offset = w.offset;
         let length = w.length;
@@ -91,17 +66,58 @@ impl Coprocessor {
         if !is_listed(offset, length) {
             return Refusal::Unlisted;
         }
-        if both(touches(1, OPERATIONS_START, w), !draws(next.operations)) {
+        if touches(1, OPERATIONS_START, w) & !draws(next.registers.figure.operations) {
             return Refusal::Function;
         }
-        let started = next.started_refusal(w);
-        if !accepts(started) {
-            return started;
+        next.started_refusal(w)
+    }
+
+    // The refusal of a write, if any: the lowest of 1 to 8, or 10.
+    fn write_refusal(self, w: Write, next: Coprocessor) -> Refusal
+        requires { ⌜ next ≡ stored w self ⌝ }
+        ensures { λ r. ⌜ r ≡ writeRefusal w self ⌝ }
+    {
+        let lower = self.lower_refusal(w, next);
+        if !accepts(lower) {
+            return lower;
         }
         if !self.is_valid() {
             return Refusal::Image;
         }
         Refusal::Accepted
+    }
+
+    // What a write of this refusal answers.
+    fn answered(self, w: Write, next: Coprocessor, refusal: Refusal) -> Written
+        requires { ⌜ (next ≡ stored w self) × (refusal ≡ writeRefusal w self) ⌝ }
+        ensures { λ r. ⌜ r ≡ writeAnswer w self ⌝ }
+    {
+        if accepts(refusal) {
+            Written {
+                refusal,
+                coprocessor: next.settled(w),
+            }
+        } else {
+            Written {
+                refusal,
+                coprocessor: self,
+            }
+        }
+    }
+
+    // A write on a record that is known to be valid, which is not asked again.
+    pub fn write_known(self, offset: u32, length: u32, value: u32) -> Written
+        requires { ⌜ validOf self ≡ true ⌝ }
+        ensures { λ r. ⌜ r ≡ writeAnswer (record { offset = offset; length = length; value = value }) self ⌝ }
+    {
+        let w = Write {
+            offset,
+            length,
+            value,
+        };
+        let next = self.latched(w);
+        let refusal = self.lower_refusal(w, next);
+        self.answered(w, next, refusal)
     }
 
     // Writes the `length` low bytes of `value` from `offset` on, and starts a drawing where that is asked; a refused write
@@ -116,16 +132,6 @@ impl Coprocessor {
         };
         let next = self.latched(w);
         let refusal = self.write_refusal(w, next);
-        if accepts(refusal) {
-            Written {
-                refusal,
-                coprocessor: next.settled(w),
-            }
-        } else {
-            Written {
-                refusal,
-                coprocessor: self,
-            }
-        }
+        self.answered(w, next, refusal)
     }
 }

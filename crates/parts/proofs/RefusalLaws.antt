@@ -1,6 +1,6 @@
 -- Every refusal has a number above 0, and what is accepted has 0; so where a ladder of refusals is accepted, each of its tests was passed.
 use mathlib.Core.Path.{_≡_, refl, sym, _∙_}
-use mathlib.Core.Bool.{Bool, true, false, false≢true}
+use mathlib.Core.Bool.{Bool, true, false, not, false≢true}
 use lib.Dec.{eqb}
 use Rattle.numbers.specs.Choose.{choose}
 use Rattle.parts.specs.declared.refusals.Refusal.{Refusal}
@@ -25,3 +25,17 @@ pub passed : (t : Bool) (first rest : Refusal) → (t ≡ true → isAccepted fi
     → (t ≡ false) × (isAccepted rest ≡ true)
 passed true first rest refused e = absurd (false≢true (sym (refused refl) ∙ e))
 passed false first rest refused e = (refl, e)
+
+-- a refusal is itself, or Accepted where it is none
+pub refused-or-accepted : (refusal : Refusal) → choose (not (isAccepted refusal)) refusal Accepted ≡ refusal
+refused-or-accepted Accepted = refl
+refused-or-accepted Place = refl
+refused-or-accepted Unfinished = refl
+refused-or-accepted Unlisted = refl
+refused-or-accepted Function = refl
+refused-or-accepted Fields = refl
+refused-or-accepted Mixes = refl
+refused-or-accepted Formats = refl
+refused-or-accepted Ends = refl
+refused-or-accepted Size = refl
+refused-or-accepted Image = refl

@@ -2,6 +2,7 @@
 pub mod drawing;
 pub mod fresh;
 pub mod latches;
+pub mod moved;
 pub mod reduced;
 pub mod refusals;
 pub mod registers;

@@ -10,26 +10,13 @@ size-holds-requires c κs = search needs
 is-reduced-requires : tie.Need-is-reduced-requires
 is-reduced-requires c κs = search needs
 
-both-requires : tie.Need-both-requires
-both-requires c κs = search needs
-
 goes-on-requires : tie.Need-goes-on-requires
 goes-on-requires c κs = search needs
 
-both-requires-2 : tie.Need-both-requires-2
-both-requires-2 c κs = search needs
-
 returns : tie.Need-returns
 unfolding validOf
-returns c = rw (c .both2 .ensures, c .before .goes-on .ensures, c .before .before .both .ensures, c .before .before .before .is-reduced .ensures, c .before .before .before .before .size-holds .ensures)
+returns c = rw (c .goes-on .ensures, c .before .is-reduced .ensures, c .before .before .size-holds .ensures)
 
 pub is-valid-spec : {M : Type 1} → statement M
 is-valid-spec =
-    tie.close
-    (tie.spec
-    size-holds-requires
-    is-reduced-requires
-    both-requires
-    goes-on-requires
-    both-requires-2
-    returns)
+    tie.close (tie.spec size-holds-requires is-reduced-requires goes-on-requires returns)

@@ -1,45 +1,42 @@
--- `read_refusal` gives the lowest of 1, 3 and 10: the tests come in that order.
-use Rattle.coprocessor.specs.Reads.{readRefusal}
-use Rattle.coprocessor.proofs.PlaceLaws.{placed-known}
-use mathlib.Core.Path.{sym, _∙_}
+-- `read_refusal` gives the lowest refusal of a read: of its place first, and then 10.
+use mathlib.Core.Path.{_≡_, sym, ap, _∙_}
 use borrow.Author.Tests.{not-true, not-false}
+use Rattle.parts.specs.Refusals.{isAccepted}
+use Rattle.coprocessor.specs.Inner.{placeRefusal}
+use Rattle.coprocessor.proofs.WriteLaws.{read-then10}
 use borrow.Author.Needs.{needs}
 use Rattle.coprocessor.proofs.Coprocessor.read_refusal.Statement.{statement}
 use Rattle.coprocessor.proofs.Coprocessor.read_refusal.Tie as tie
+use Rattle.coprocessor.proofs.Coprocessor.read_refusal.Reads as reads
 
-is-placed-requires : tie.Need-is-placed-requires
-is-placed-requires c κs = search needs
+place : (c : tie.After-accepts) → c .accepts .result ≡ isAccepted (placeRefusal (c .before .before .args .offset) (c .before .before .args .length))
+place c = c .accepts .ensures ∙ ap isAccepted (c .before .place-refusal .ensures)
+
+place-refusal-requires : tie.Need-place-refusal-requires
+place-refusal-requires c κs = search needs
+
+accepts-requires : tie.Need-accepts-requires
+accepts-requires c κs = search needs
 
 returns : tie.Need-returns
-unfolding readRefusal
-returns c = simp (sym (c .before .is-placed .ensures) ∙ not-true _ (c .if1 .taken))
-
-is-listed-requires : tie.Need-is-listed-requires
-is-listed-requires c κs = let p = placed-known _ _ (sym (c .before .is-placed .ensures) ∙ not-false _ (c .if1 .left)) in (p .low, p .short)
-
-returns-2 : tie.Need-returns-2
-unfolding readRefusal
-returns-2 c = simp (sym (c .before .before .before .is-placed .ensures) ∙ not-false _ (c .before .before .if1 .left), sym (c .before .is-listed .ensures) ∙ not-true _ (c .if2 .taken))
+returns c = c .before .before .place-refusal .ensures ∙ sym (read-then10 _ _ _ ∙ simp (sym (place (c .before)) ∙ not-true _ (c .if1 .taken)))
 
 is-valid-requires : tie.Need-is-valid-requires
 is-valid-requires c κs = search needs
 
-returns-3 : tie.Need-returns-3
-unfolding readRefusal
-returns-3 c = simp (sym (c .before .before .before .before .before .is-placed .ensures) ∙ not-false _ (c .before .before .before .before .if1 .left), sym (c .before .before .before .is-listed .ensures) ∙ not-false _ (c .before .before .if2 .left), sym (c .before .is-valid .ensures) ∙ not-true _ (c .if3 .taken))
+returns-2 : tie.Need-returns-2
+returns-2 c = sym (read-then10 _ _ _ ∙ simp (sym (place (c .before .before .before)) ∙ not-false _ (c .before .before .if1 .left), sym (c .before .is-valid .ensures) ∙ not-true _ (c .if2 .taken)))
 
-returns-4 : tie.Need-returns-4
-unfolding readRefusal
-returns-4 c = simp (sym (c .before .before .before .before .before .is-placed .ensures) ∙ not-false _ (c .before .before .before .before .if1 .left), sym (c .before .before .before .is-listed .ensures) ∙ not-false _ (c .before .before .if2 .left), sym (c .before .is-valid .ensures) ∙ not-false _ (c .if3 .left))
+returns-3 : tie.Need-returns-3
+returns-3 c = sym (read-then10 _ _ _ ∙ simp (sym (place (c .before .before .before)) ∙ not-false _ (c .before .before .if1 .left), sym (c .before .is-valid .ensures) ∙ not-false _ (c .if2 .left)))
 
 pub read-refusal-spec : {M : Type 1} → statement M
 read-refusal-spec =
     tie.close
     (tie.spec
-    is-placed-requires
+    place-refusal-requires
+    accepts-requires
     returns
-    is-listed-requires
-    returns-2
     is-valid-requires
-    returns-3
-    returns-4)
+    returns-2
+    returns-3)

@@ -1,6 +1,6 @@
--- `settled` is what an accepted write leaves: started where it starts a drawing, as stored otherwise.
-use Rattle.coprocessor.specs.Writes.{settledBy}
+-- `settled` starts the drawing where the write asks for it.
 use mathlib.Core.Path.{sym, _∙_}
+use Rattle.coprocessor.specs.Writes.{settledBy}
 use borrow.Author.Needs.{needs}
 use Rattle.coprocessor.proofs.Coprocessor.settled.Statement.{statement}
 use Rattle.coprocessor.proofs.Coprocessor.settled.Tie as tie

@@ -1,33 +1,30 @@
--- `start` turns the used pointers and sets the drawing: the pen that the definition names, put into the record.
-use mathlib.Core.Path.{_∙_, ap}
+-- `start` turns the used pointers and sets the drawing.
+use mathlib.Core.Path.{_∙_}
 use mir.Syntax.{w32}
-use mir.Val.{SFits}
 use mir.ValLaws.{toZ-ofZ}
-use borrow.Author.Needs.{needs}
+use Rattle.parts.specs.Moved.{withMoved}
 use Rattle.coprocessor.specs.Writes.{started}
-use Rattle.coprocessor.specs.Runs.{withPen}
+use borrow.Author.Needs.{needs}
 use Rattle.coprocessor.proofs.Coprocessor.start.Statement.{statement}
 use Rattle.coprocessor.proofs.Coprocessor.start.Tie as tie
 
-start-source-requires : tie.Need-start-source-requires
-start-source-requires c κs = search needs
+start-pointers-requires : tie.Need-start-pointers-requires
+start-pointers-requires c κs = search needs
 
-start-pattern-requires : tie.Need-start-pattern-requires
-start-pattern-requires c κs = search needs
+with-moved-requires : tie.Need-with-moved-requires
+with-moved-requires c κs = search needs
 
 start-drawing-requires : tie.Need-start-drawing-requires
 start-drawing-requires c κs = search needs
 
-with-pen-requires : tie.Need-with-pen-requires
-with-pen-requires c κs = search needs
-
 returns : tie.Need-returns
 unfolding started
 returns c =
-    let e : SFits w32 (c .before .before .before .before .before .before .before .before .before .before .args .self .terms .e) = search needs in
-    c .with-pen .ensures
-    ∙ ap (withPen (c .before .before .before .before .before .before .before .before .before .before .args .self))
-    (λ i. record { source = c .before .before .before .before .start-source .ensures i; pattern = c .before .before .before .start-pattern .ensures i; destination = c .before .before .before .before .before .before .before .before .before .before .args .self .destination; e = toZ-ofZ w32 (c .before .before .before .before .before .before .before .before .before .before .args .self .terms .e) e i; drawing = c .before .before .start-drawing .ensures i })
+    let self = c .before .before .before .before .before .before .before .before .args .self in
+    let e = toZ-ofZ w32 (self .registers .terms .e) (search (needs, c .before .before .struct-told .given)) in
+    let registers = c .before .with-moved .ensures ∙ (λ i. withMoved (e i) (c .before .before .before .start-pointers .ensures i) (self .registers)) in
+    λ i. record { size = self .size; maps = self .maps; registers = registers i; drawing = c .start-drawing .ensures i }
 
 pub start-spec : {M : Type 1} → statement M
-start-spec = tie.close (tie.spec start-source-requires start-pattern-requires start-drawing-requires with-pen-requires returns)
+start-spec =
+    tie.close (tie.spec start-pointers-requires with-moved-requires start-drawing-requires returns)

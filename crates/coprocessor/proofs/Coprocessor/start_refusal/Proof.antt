@@ -1,4 +1,4 @@
--- `start_refusal` is refusals 5 to 8 of the record's own registers.
+-- `start_refusal` is the start rules on the record's own maps and registers.
 use Rattle.coprocessor.specs.Valid.{startRefusalOf}
 use borrow.Author.Needs.{needs}
 use Rattle.coprocessor.proofs.Coprocessor.start_refusal.Statement.{statement}

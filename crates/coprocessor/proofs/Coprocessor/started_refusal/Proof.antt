@@ -1,6 +1,6 @@
--- `started_refusal` asks refusals 5 to 8 at a start only.
-use Rattle.coprocessor.specs.Writes.{startedRefusal}
+-- `started_refusal` asks the start rules only where the write starts a drawing.
 use mathlib.Core.Path.{sym, _∙_}
+use Rattle.coprocessor.specs.Writes.{startedRefusal}
 use borrow.Author.Needs.{needs}
 use Rattle.coprocessor.proofs.Coprocessor.started_refusal.Statement.{statement}
 use Rattle.coprocessor.proofs.Coprocessor.started_refusal.Tie as tie

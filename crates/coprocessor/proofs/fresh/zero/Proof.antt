@@ -1,12 +1,15 @@
--- `zero` is the fresh record: every field is written out.
+-- `zero` is the fresh record: maps and drawing are written out, and the registers are zero.
 use Rattle.coprocessor.specs.Fresh.{freshOf}
-use mathlib.Core.Path.{refl}
+use borrow.Author.Needs.{needs}
 use Rattle.coprocessor.proofs.fresh.zero.Statement.{statement}
 use Rattle.coprocessor.proofs.fresh.zero.Tie as tie
 
+zero-registers-requires : tie.Need-zero-registers-requires
+zero-registers-requires c κs = search needs
+
 returns : tie.Need-returns
 unfolding freshOf
-returns c = refl
+returns c = rw (c .zero-registers .ensures)
 
 pub zero-spec : {M : Type 1} → statement M
-zero-spec = tie.close (tie.spec returns)
+zero-spec = tie.close (tie.spec zero-registers-requires returns)

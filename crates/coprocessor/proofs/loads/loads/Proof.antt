@@ -18,18 +18,15 @@ are-same-requires c κs = search needs
 is-marked-requires : tie.Need-is-marked-requires
 is-marked-requires c κs = search needs
 
-both-requires : tie.Need-both-requires
-both-requires c κs = search needs
-
 is-valid-requires : tie.Need-is-valid-requires
 is-valid-requires c κs = search needs
 
-both-requires-2 : tie.Need-both-requires-2
-both-requires-2 c κs = search needs
-
 returns : tie.Need-returns
 unfolding loadsBy
-returns c = rw (← loads-by (c .before .before .before .before .before .before .before .before .args .buffer .now), eq-eqb _ _ (c .before .before .before .before .before .before .before .before .pre .0), c .both2 .ensures, c .before .is-valid .ensures, c .before .before .both .ensures, c .before .before .before .is-marked .ensures, c .before .before .before .before .are-same .ensures, c .before .before .before .before .before .counters-of .ensures, c .before .before .before .before .before .before .counters-from .ensures, c .before .before .before .before .before .before .before .before .pre .1)
+returns c =
+    let start = c .before .before .before .before .before .before in
+    rw (← loads-by (start .args .buffer .now), eq-eqb _ _ (start .pre .0), c .is-valid .ensures, c .before .is-marked .ensures)
+    (rw (c .before .before .are-same .ensures, c .before .before .before .counters-of .ensures, c .before .before .before .before .counters-from .ensures, start .pre .1))
 
 pub loads-spec : {M : Type 1} → statement M
 loads-spec =
@@ -39,7 +36,5 @@ loads-spec =
     counters-of-requires
     are-same-requires
     is-marked-requires
-    both-requires
     is-valid-requires
-    both-requires-2
     returns)

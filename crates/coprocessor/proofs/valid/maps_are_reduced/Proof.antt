@@ -1,6 +1,6 @@
--- `maps_are_reduced` is the rule of the four maps: one test each, joined.
-use Rattle.coprocessor.specs.Valid.{mapsReduced}
+-- `maps_are_reduced` is the definition: one test for each map.
 use Rattle.rules.specs.Maps.{mapAt}
+use Rattle.coprocessor.specs.Valid.{mapsReduced}
 use borrow.Author.Needs.{needs}
 use Rattle.coprocessor.proofs.valid.maps_are_reduced.Statement.{statement}
 use Rattle.coprocessor.proofs.valid.maps_are_reduced.Tie as tie
@@ -29,18 +29,11 @@ array-copy-out-map-is-reduced-4 c = search needs
 map-is-reduced-requires-4 : tie.Need-map-is-reduced-requires-4
 map-is-reduced-requires-4 c κs = search needs
 
-both-requires : tie.Need-both-requires
-both-requires c κs = search needs
-
-both-requires-2 : tie.Need-both-requires-2
-both-requires-2 c κs = search needs
-
-both-requires-3 : tie.Need-both-requires-3
-both-requires-3 c κs = search needs
-
 returns : tie.Need-returns
 unfolding mapsReduced mapAt
-returns c = rw (c .both3 .ensures, c .before .both2 .ensures, c .before .before .both .ensures, c .before .before .before .map-is-reduced4 .ensures, c .before .before .before .before .before .map-is-reduced3 .ensures, c .before .before .before .before .before .before .before .map-is-reduced2 .ensures, c .before .before .before .before .before .before .before .before .before .map-is-reduced .ensures)
+returns c =
+    let second = c .before .before .before .before in
+    rw (c .map-is-reduced4 .ensures, c .before .before .map-is-reduced3 .ensures, second .map-is-reduced2 .ensures, second .before .before .map-is-reduced .ensures)
 
 pub maps-are-reduced-spec : {M : Type 1} → statement M
 maps-are-reduced-spec =
@@ -54,7 +47,4 @@ maps-are-reduced-spec =
     map-is-reduced-requires-3
     array-copy-out-map-is-reduced-4
     map-is-reduced-requires-4
-    both-requires
-    both-requires-2
-    both-requires-3
     returns)

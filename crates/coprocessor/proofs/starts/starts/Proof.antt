@@ -1,9 +1,9 @@
--- `starts` says whether the write starts a drawing: the two bytes and the functions that each starts.
+-- `starts` is the definition: a byte is touched exactly where it is covered.
+use Rattle.parts.proofs.TakeLaws.{touched-one}
 use Rattle.coprocessor.specs.Writes.{startsBy}
 use borrow.Author.Needs.{needs}
-use Rattle.parts.proofs.LatchLaws.{touched-one}
-use Rattle.coprocessor.proofs.Coprocessor.starts.Statement.{statement}
-use Rattle.coprocessor.proofs.Coprocessor.starts.Tie as tie
+use Rattle.coprocessor.proofs.starts.starts.Statement.{statement}
+use Rattle.coprocessor.proofs.starts.starts.Tie as tie
 
 is-line-requires : tie.Need-is-line-requires
 is-line-requires c κs = search needs
@@ -22,7 +22,9 @@ is-codes-requires c κs = search needs
 
 returns : tie.Need-returns
 unfolding startsBy
-returns c = rw (c .is-codes .ensures, c .before .touches2 .ensures, c .before .before .touches .ensures, touched-one 0x7F _, touched-one 0x2F _, c .before .before .before .is-block .ensures, c .before .before .before .before .is-line .ensures)
+returns c =
+    rw (c .is-codes .ensures, c .before .touches2 .ensures, c .before .before .touches .ensures, touched-one 0x7F _, touched-one 0x2F _)
+    (rw (c .before .before .before .is-block .ensures, c .before .before .before .before .is-line .ensures))
 
 pub starts-spec : {M : Type 1} → statement M
 starts-spec =

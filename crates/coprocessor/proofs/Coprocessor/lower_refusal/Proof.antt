@@ -1,0 +1,85 @@
+-- `lower_refusal` gives the lowest of 1 to 8: the tests come in the order of the numbers, from 4 on with the record that has the write stored.
+use mathlib.Core.Path.{_≡_, sym, _∙_}
+use mathlib.Core.Bool.{true, false, not, _&&_}
+use borrow.Author.Tests.{not-true, not-false}
+use Rattle.numbers.specs.Bytes.{covers}
+use Rattle.parts.specs.Drawings.{unfinished}
+use Rattle.parts.specs.Registers.{placed, listed}
+use Rattle.parts.proofs.TakeLaws.{touched-one}
+use Rattle.rules.specs.Operations.{draws}
+use Rattle.coprocessor.specs.Writes.{stored}
+use Rattle.coprocessor.specs.Inner.{lowerRefusal}
+use Rattle.coprocessor.proofs.PlaceLaws.{placed-known}
+use borrow.Author.Needs.{needs}
+use Rattle.coprocessor.proofs.Coprocessor.lower_refusal.Statement.{statement}
+use Rattle.coprocessor.proofs.Coprocessor.lower_refusal.Tie as tie
+
+-- what the tests before a place said
+place : (c : tie.After-is-unfinished) → placed (c .before .before .before .args .w .offset) (c .before .before .before .args .w .length) ≡ true
+place c = sym (c .before .before .is-placed .ensures) ∙ not-false _ (c .before .if1 .left)
+
+idle : (c : tie.After-is-listed) → unfinished (c .before .before .before .before .before .args .self .drawing) ≡ false
+idle c = sym (c .before .before .is-unfinished .ensures) ∙ c .before .if2 .left
+
+known : (c : tie.After-touches) → let a = c .before .before .before .before .before .before .before .args in listed (a .w .length) (a .w .offset) ≡ true
+known c = sym (c .before .before .is-listed .ensures) ∙ not-false _ (c .before .if3 .left)
+
+no-function : (c : tie.After-draws) → let a = c .before .before .before .before .before .before .before .before .args in
+    (c .before .touches .result && not (c .draws .result)) ≡ (covers (a .w) 0x7F && not (draws (stored (a .w) (a .self) .registers .figure .operations)))
+no-function c =
+    let start = c .before .before .before .before .before .before .before .before in
+    rw (c .before .touches .ensures, touched-one 0x7F _, c .draws .ensures, start .pre)
+
+is-placed-requires : tie.Need-is-placed-requires
+is-placed-requires c κs = search needs
+
+returns : tie.Need-returns
+unfolding lowerRefusal
+returns c = simp (sym (c .before .is-placed .ensures) ∙ not-true _ (c .if1 .taken))
+
+is-unfinished-requires : tie.Need-is-unfinished-requires
+is-unfinished-requires c κs = search needs
+
+returns-2 : tie.Need-returns-2
+unfolding lowerRefusal
+returns-2 c = simp (place (c .before), sym (c .before .is-unfinished .ensures) ∙ c .if2 .taken)
+
+is-listed-requires : tie.Need-is-listed-requires
+is-listed-requires c κs = let p = placed-known _ _ (place (c .before)) in (p .low, p .short)
+
+returns-3 : tie.Need-returns-3
+unfolding lowerRefusal
+returns-3 c = simp (place (c .before .before .before), idle (c .before), sym (c .before .is-listed .ensures) ∙ not-true _ (c .if3 .taken))
+
+touches-requires : tie.Need-touches-requires
+touches-requires c κs = search needs
+
+draws-requires : tie.Need-draws-requires
+draws-requires c κs = search needs
+
+returns-4 : tie.Need-returns-4
+unfolding lowerRefusal
+returns-4 c = simp (place (c .before .before .before .before .before .before), idle (c .before .before .before .before), known (c .before .before), sym (no-function (c .before)) ∙ c .if4 .taken)
+
+started-refusal-requires : tie.Need-started-refusal-requires
+started-refusal-requires c κs = search needs
+
+returns-5 : tie.Need-returns-5
+unfolding lowerRefusal
+returns-5 c = simp (place (c .before .before .before .before .before .before .before), idle (c .before .before .before .before .before), known (c .before .before .before), sym (no-function (c .before .before)) ∙ c .before .if4 .left) (rw (c .before .before .before .before .before .before .before .before .before .before .pre) at (c .started-refusal .ensures))
+
+pub lower-refusal-spec : {M : Type 1} → statement M
+lower-refusal-spec =
+    tie.close
+    (tie.spec
+    is-placed-requires
+    returns
+    is-unfinished-requires
+    returns-2
+    is-listed-requires
+    returns-3
+    touches-requires
+    draws-requires
+    returns-4
+    started-refusal-requires
+    returns-5)
