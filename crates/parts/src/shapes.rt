@@ -38,6 +38,13 @@ pub struct Spot {
     pub y: i16,
 }
 
+// The source, pattern and destination pointers, which a drawing moves.
+pub struct Pointers {
+    pub source: Point,
+    pub pattern: Point,
+    pub destination: Spot,
+}
+
 const MAP_BASE: u8 = 0x14;
 
 const MAP_WIDTH: u8 = 0x18;
