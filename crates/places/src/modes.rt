@@ -6,10 +6,11 @@ ghost use Prim.Native.Nat.{ℕ};
 ghost use lib.Dec.{eqb};
 ghost use lib.IntN.{ℤ};
 ghost use Rattle.rules.specs.Starts.{codeAt};
+ghost use Rattle.moves.specs.declared.Travel.{Travel};
 ghost use Rattle.moves.specs.Steps.{codeStep};
 ghost use Rattle.parts.specs.declared.drawing.Drawing.the-variants.{Line, Codes};
-ghost use Rattle.places.specs.Places.{ofRun, onBoundary, nulledBy};
-ghost use Rattle.places.specs.Inner.{heldBack};
+ghost use Rattle.places.specs.Places.{ofRun, isMove, onBoundary, nulledBy};
+ghost use Rattle.places.specs.Inner.{codeIn};
 use crate::Setup;
 use moves::Travel;
 use moves::Turn;
@@ -17,6 +18,7 @@ use moves::steps::code_step;
 use moves::steps::line_step;
 use moves::steps::moves_row;
 use parts::drawing::Drawing;
+use rules::starts::code_at;
 
 // Of a horizontal run, the first going up, the last going down, and none going level.
 fn of_run(down: Turn, first: bool, last: bool) -> bool
@@ -63,10 +65,12 @@ fn code_bounds(code: u8, done: u16, last: bool) -> bool
 }
 
 // Whether the drawing mode leaves out a position of this code.
-fn code_nulled(mode: u8, code: u8, done: u16) -> bool
-    ensures { λ r. ⌜ ((s : Setup) (e : ℤ) (count i : ℕ) → s .brush .flow .mode ≡ mode → code ≡ codeAt (s .travel .steps) count i → r ≡ nulledBy s e (Codes count i done)) ⌝ }
+fn code_nulled(setup: Setup, code: u8, done: u16) -> bool
+    ensures { λ r.
+        ⌜ ((e : ℤ) (count i : ℕ) → code ≡ codeAt (setup .travel .steps) count i → r ≡ nulledBy setup e (Codes count i done)) ⌝ }
 {
     let last = done == code as u16 % 16;
+    let mode = setup.brush.flow.mode;
     match mode {
         1 => done == 0,
         2 => last,
@@ -75,7 +79,19 @@ fn code_nulled(mode: u8, code: u8, done: u16) -> bool
     }
 }
 
-// Whether a position only moves: one of a code without bit 4.
+// The code that is drawn, 0 where none is.
+pub fn code_in(steps: u32, drawing: Drawing) -> u8
+    ensures { λ r. ⌜ r ≡ codeIn steps drawing ⌝ }
+{
+    match drawing {
+        Drawing::Nothing { .. } => 0,
+        Drawing::Line { .. } => 0,
+        Drawing::Codes { count, code, .. } => code_at(steps, count, code),
+        Drawing::Block { .. } => 0,
+    }
+}
+
+// Whether a position of this code only moves, as one of a code without bit 4 does.
 pub fn is_move(code: u8, drawing: Drawing) -> bool
     ensures { λ r. ⌜ ((t : Travel) → code ≡ codeIn (t .steps) drawing → r ≡ isMove t drawing) ⌝ }
 {
@@ -87,7 +103,7 @@ pub fn is_move(code: u8, drawing: Drawing) -> bool
     }
 }
 
-// Whether the drawing mode leaves out a position.
+// Whether the drawing mode leaves out a position, of this code where one is drawn.
 pub fn is_nulled(setup: Setup, code: u8, e: i32, drawing: Drawing) -> bool
     requires { ⌜ code ≡ codeIn (setup .travel .steps) drawing ⌝ }
     ensures { λ r. ⌜ r ≡ nulledBy setup e drawing ⌝ }
@@ -95,11 +111,7 @@ pub fn is_nulled(setup: Setup, code: u8, e: i32, drawing: Drawing) -> bool
     match drawing {
         Drawing::Nothing { .. } => false,
         Drawing::Line { rose, done } => line_nulled(setup, e, rose, done),
-        Drawing::Codes {
-            count: _,
-            code: _,
-            done,
-        } => code_nulled(setup.brush.flow.mode, code, done),
+        Drawing::Codes { done, .. } => code_nulled(setup, code, done),
         Drawing::Block { .. } => false,
     }
 }
