@@ -17,7 +17,7 @@ pub extern "C" fn leaf_mix(bits: u32, code: u8, planes: u32, source: u32, destin
     ensures { λ r. ⌜ r ≡ choose (leb bits 8) (mixed bits code planes source destination) 4294967295 ⌝ }
 {
     if bits <= 8 {
-        mixes::mix(bits, code, planes, source, destination)
+        mixes::mix(mixes::depth_of(bits, planes), code, source, destination)
     } else {
         TOO_WIDE
     }
@@ -35,7 +35,8 @@ pub extern "C" fn leaf_holds(
     ensures { λ r. ⌜ r ≡ choose (leb bits 8) (choose (conditionHolds bits condition planes destination value) 1 0) 4294967295 ⌝ }
 {
     if bits <= 8 {
-        if mixes::conditions::holds(bits, condition, planes, destination, value) {
+        let depth = mixes::depth_of(bits, planes);
+        if mixes::conditions::holds(depth, condition, destination, value) {
             1
         } else {
             0

@@ -6,5 +6,6 @@ pub mod Gathered
 pub mod Building
 pub mod ArithmeticMixes
 pub mod Mixed
+pub mod Depths
 pub mod Order
 pub mod Examples

@@ -1,6 +1,6 @@
 -- The mix under the plane mask: its bound, its low bits, and its bits outside the mask, from those of the merge by induction on the pixel's bits.
 use mathlib.Core.Bool.{Bool}
-use mathlib.Core.Path.{_≡_, refl, _∙_}
+use mathlib.Core.Path.{_≡_, refl, sym, _∙_}
 use Prim.Native.Nat.{ℕ, zero, suc, _+_, _-_, _*_, _/_, _%_, _^_, _≤_, _<_}
 use native.Mathlib.Nat.{mod-mod, div-one, mod-one, not-suc-le-zero, le-of-suc-le-suc}
 use native.Mathlib.Omega.{arith}
@@ -67,6 +67,13 @@ mixed-lt n code m s d = merged-lt n m _ d
 pub mixed-low : (n code m s d : ℕ) → mixed n code (m % 2 ^ n) (s % 2 ^ n) (d % 2 ^ n) ≡ mixed n code m s d
 unfolding mixed
 mixed-low n code m s d = rw (logical-low n code s d, arithmetic-low n code m s d) (merged-low n m _ d)
+
+-- so cutting the plane mask changes nothing, and nor does cutting the pixels
+pub mixed-planes : (n code m s d : ℕ) → mixed n code (m % 2 ^ n) s d ≡ mixed n code m s d
+mixed-planes n code m s d = sym (mixed-low n code (m % 2 ^ n) s d) ∙ rw (mod-mod m (2 ^ n)) (mixed-low n code m s d)
+
+pub mixed-pixels : (n code m s d : ℕ) → mixed n code m (s % 2 ^ n) (d % 2 ^ n) ≡ mixed n code m s d
+mixed-pixels n code m s d = sym (mixed-planes n code m (s % 2 ^ n) (d % 2 ^ n)) ∙ mixed-low n code m s d
 
 pub mixed-logical : (n code m s d : ℕ) → code < 16 → mixed n code m s d ≡ merged n m (logical n code s d) d
 unfolding mixed

@@ -3,9 +3,9 @@ use mathlib.Core.Bool.{false}
 use mathlib.Core.Logic.{⊎-elim}
 use mathlib.Core.Path.{_≡_, refl, sym, _∙_}
 use Prim.Native.Nat.{ℕ, zero, suc, _+_, _-_, _*_, _/_, _%_, _^_, _≤_, _<_}
-use native.Mathlib.Nat.{mod-one, le-of-lt, le-of-eq, ne-of-lt, ne-of-gt}
+use native.Mathlib.Nat.{mod-one, mod-mod, mod-eq-of-lt, le-of-lt, le-of-eq, ne-of-lt, ne-of-gt}
 use native.Mathlib.Omega.{arith}
-use lib.Bits.{bitAnd, and-mask, and-zero-r}
+use lib.Bits.{bitAnd, and-zero-r}
 use lib.Dec.{leb, ltb, eqb}
 use borrow.Author.Tests.{lt-ltb, le-ltb, le-leb, lt-leb, eq-eqb, ne-eqb}
 use Rattle.mixes.specs.Mixes.{gathered}
@@ -71,10 +71,16 @@ gathered-alike (suc n) m a b =
     (λ taken. rw (masked-taken n m a taken, masked-taken n m b taken, taken) (paired (a % 2) (b % 2) (last-lt a) (last-lt b) halves))
     (last-cases m)
 
-pub holds-masked : (n condition m d v : ℕ)
-    → conditionHolds n condition m d v ≡ holdsOf condition (bitAnd d (bitAnd m (2 ^ n - 1))) (bitAnd v (bitAnd m (2 ^ n - 1)))
+pub holds-masked : (n condition m d v : ℕ) → m < 2 ^ n → conditionHolds n condition m d v ≡ holdsOf condition (bitAnd d m) (bitAnd v m)
 unfolding conditionHolds
-holds-masked n condition m d v = rw (and-mask m n) (alike-holds condition (gathered-alike n m d v))
+holds-masked n condition m d v h = rw (mod-eq-of-lt h) at (alike-holds condition (gathered-alike n m d v))
+
+-- cutting the plane mask changes nothing
+pub holds-planes : (n condition m d v : ℕ) → conditionHolds n condition (m % 2 ^ n) d v ≡ conditionHolds n condition m d v
+unfolding conditionHolds
+holds-planes n condition m d v =
+    alike-holds condition (gathered-alike n (m % 2 ^ n) d v)
+    ∙ rw (mod-mod m (2 ^ n)) (sym (alike-holds condition (gathered-alike n m d v)))
 
 pub holds-past : (n condition m d v : ℕ) → 8 ≤ condition → conditionHolds n condition m d v ≡ false
 unfolding conditionHolds holdsOf

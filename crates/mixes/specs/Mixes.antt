@@ -4,8 +4,14 @@ use mathlib.Core.List.{[], _∷_}
 use lib.ListN.{getD}
 use lib.Dec.{ltb, eqb}
 use Rattle.numbers.specs.Choose.{choose}
+use Rattle.mixes.specs.declared.Depth.{Depth}
 
--- 01, One position, mixes 0 to F hex: in 01's order they are the sixteen truth tables; the code's bit 0 is the result for S and D, bit 1 for S and not D, bit 2 for not S and D, bit 3 for neither
+-- 01, One position: a pixel's bits, the pixel that is all ones, and the plane mask, which counts by those bits
+unfoldable pub depthOf : ℕ → ℕ → Depth
+depthOf n m = record { bits = n; ones = 2 ^ n - 1; planes = m % 2 ^ n }
+
+-- 01, One position, mixes 0 to F hex: in 01's order they are the sixteen truth tables; the code's bit 0 is the result for S and D,
+-- bit 1 for S and not D, bit 2 for not S and D, bit 3 for neither
 unfoldable pub tableBit : ℕ → ℕ → ℕ → ℕ
 tableBit code s d = code / 2 ^ (3 - (2 * s + d)) % 2
 
@@ -25,7 +31,8 @@ unfoldable pub scattered : ℕ → ℕ → ℕ → ℕ
 scattered zero m y = 0
 scattered (suc n) m y = choose (eqb (m % 2) 1) (y % 2 + 2 * scattered n (m / 2) (y / 2)) (2 * scattered n (m / 2) y)
 
--- 01, One position, mixes 10 to 15 hex, on numbers from 0 to top: greater, lesser, S + D held at the top, D - S and S - D held at 0, average rounded down
+-- 01, One position, mixes 10 to 15 hex, on numbers from 0 to top: greater, lesser, S + D held at the top, D - S and S - D held at 0,
+-- average rounded down
 unfoldable pub worked : ℕ → ℕ → ℕ → ℕ → ℕ
 worked code top s d =
     getD (max s d ∷ min s d ∷ min (s + d) top ∷ (d - s) ∷ (s - d) ∷ (s + d) / 2 ∷ []) (code - 16) 0

@@ -1,7 +1,8 @@
 ghost use mathlib.Core.Path.{_≡_};
 ghost use Prim.Native.Nat.{_+_, _-_, _/_, _^_, _≤_, _<_, min, max};
 ghost use Rattle.mixes.specs.Mixes as defined;
-use crate::logical::all_ones;
+ghost use Rattle.mixes.specs.Inner.{Cut};
+use crate::Depth;
 
 // The bits of `x` that the mask enables, in their order, as one number.
 fn gather(bits: u32, mask: u32, x: u32) -> u32
@@ -91,13 +92,14 @@ fn work(code: u8, top: u32, s: u32, d: u32) -> u32
 }
 
 // The mix of the enabled bits, taken as one number; where all are enabled, the pixels are those numbers as they stand.
-pub(crate) fn arithmetic(bits: u32, code: u8, mask: u32, s: u32, d: u32) -> u32
-    requires { ⌜ (bits ≤ 8) × (16 ≤ code) × (s < 2 ^ bits) × (d < 2 ^ bits) ⌝ }
-    ensures { λ r. ⌜ r ≡ defined.arithmetic bits code mask s d ⌝ }
+pub(crate) fn arithmetic(depth: Depth, code: u8, s: u32, d: u32) -> u32
+    requires { ⌜ Cut depth × (16 ≤ code) × (s < 2 ^ depth .bits) × (d < 2 ^ depth .bits) ⌝ }
+    ensures { λ r. ⌜ r ≡ defined.arithmetic (depth .bits) code (depth .planes) s d ⌝ }
 {
-    let full = all_ones(bits);
-    if mask == full {
-        return work(code, full, s, d);
+    let bits = depth.bits;
+    let mask = depth.planes;
+    if mask == depth.ones {
+        return work(code, depth.ones, s, d);
     }
     let top = gather(bits, mask, mask);
     let source = gather(bits, mask, s);

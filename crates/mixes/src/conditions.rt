@@ -1,20 +1,19 @@
 ghost use mathlib.Core.Path.{_≡_};
-ghost use Prim.Native.Nat.{_≤_};
 ghost use Rattle.mixes.specs.Conditions.{conditionHolds};
-use crate::logical::all_ones;
+ghost use Rattle.mixes.specs.Inner.{Cut};
+use crate::Depth;
 
 // The condition that is true of nothing.
 const NEVER: u8 = 4;
 
 // Whether a condition is true of the destination: the enabled bits stay in their order, so the masked pixels compare as the
 // gathered bits do.
-fn compares(bits: u32, condition: u8, planes: u32, destination: u32, value: u32) -> bool
-    requires { ⌜ bits ≤ 8 ⌝ }
-    ensures { λ r. ⌜ r ≡ conditionHolds bits condition planes destination value ⌝ }
+fn compares(depth: Depth, condition: u8, destination: u32, value: u32) -> bool
+    requires { ⌜ Cut depth ⌝ }
+    ensures { λ r. ⌜ r ≡ conditionHolds (depth .bits) condition (depth .planes) destination value ⌝ }
 {
-    let mask = planes & all_ones(bits);
-    let d = destination & mask;
-    let v = value & mask;
+    let d = destination & depth.planes;
+    let v = value & depth.planes;
     match condition {
         0 => true,
         1 => v < d,
@@ -30,12 +29,12 @@ fn compares(bits: u32, condition: u8, planes: u32, destination: u32, value: u32)
 
 // Whether the compare condition is true of the destination, over the bits that the plane mask enables; one past 7 is true of
 // nothing. Most drawings have the condition that never holds, so that is asked first.
-pub fn holds(bits: u32, condition: u8, planes: u32, destination: u32, value: u32) -> bool
-    requires { ⌜ bits ≤ 8 ⌝ }
-    ensures { λ r. ⌜ r ≡ conditionHolds bits condition planes destination value ⌝ }
+pub fn holds(depth: Depth, condition: u8, destination: u32, value: u32) -> bool
+    requires { ⌜ Cut depth ⌝ }
+    ensures { λ r. ⌜ r ≡ conditionHolds (depth .bits) condition (depth .planes) destination value ⌝ }
 {
     if condition == NEVER {
         return false;
     }
-    compares(bits, condition, planes, destination, value)
+    compares(depth, condition, destination, value)
 }

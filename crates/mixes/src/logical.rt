@@ -1,21 +1,15 @@
 ghost use mathlib.Core.Path.{_≡_};
-ghost use Prim.Native.Nat.{_-_, _^_, _≤_, _<_};
+ghost use Prim.Native.Nat.{_^_, _<_};
 ghost use Rattle.mixes.specs.Mixes as defined;
-
-// The pixel that is all ones.
-pub(crate) fn all_ones(bits: u32) -> u32
-    requires { ⌜ bits ≤ 8 ⌝ }
-    ensures { λ r. ⌜ r ≡ 2 ^ bits - 1 ⌝ }
-{
-    (1 << bits) - 1
-}
+ghost use Rattle.mixes.specs.Inner.{Cut};
+use crate::Depth;
 
 // The logical mixes, in the order of their codes.
-pub(crate) fn logical(bits: u32, code: u8, s: u32, d: u32) -> u32
-    requires { ⌜ (bits ≤ 8) × (code < 16) × (s < 2 ^ bits) × (d < 2 ^ bits) ⌝ }
-    ensures { λ r. ⌜ r ≡ defined.logical bits code s d ⌝ }
+pub(crate) fn logical(depth: Depth, code: u8, s: u32, d: u32) -> u32
+    requires { ⌜ Cut depth × (code < 16) × (s < 2 ^ depth .bits) × (d < 2 ^ depth .bits) ⌝ }
+    ensures { λ r. ⌜ r ≡ defined.logical (depth .bits) code s d ⌝ }
 {
-    let full = all_ones(bits);
+    let full = depth.ones;
     match code {
         0 => 0,
         1 => s & d,

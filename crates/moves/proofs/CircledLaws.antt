@@ -1,4 +1,4 @@
--- The laws of a destination pointer on its circle: its remainder turns as a pointer does in a map of 8,192 columns, and a place on the circle is told by its remainder.
+-- The laws of a destination pointer on its circle: its remainder turns as in a map of 8,192 columns, and a place is told by its remainder.
 use mathlib.Core.Path.{_≡_, refl, sym, ap, _∙_}
 use Prim.Native.Nat.{ℕ, zero, suc, _+_, _≤_}
 use native.Mathlib.Omega.{arith}

@@ -1,4 +1,4 @@
--- A move counts one position: which drawing is in hand after it follows from the drawing before, and at each of its three kinds the positions left are one fewer and the counters hold again.
+-- A move counts one position: the drawing in hand after it follows from the one before, and at each of its three kinds one position fewer is left.
 use mathlib.Core.Path.{_≡_, refl, sym, ap, _∙_}
 use mathlib.Core.Logic.{⊎-elim}
 use mathlib.Core.Bool.{Bool, true, false, not, _&&_, _||_, false≢true}
@@ -21,7 +21,7 @@ use Rattle.rules.specs.Going.{noneStopped, countersHold}
 use Rattle.rules.specs.Totals.{codesFrom, leftOf}
 use Rattle.rules.proofs.CounterLaws.{line-held, line-holds, block-held, block-holds, idle-holds}
 use Rattle.moves.specs.declared.Course.{Course}
-use Rattle.moves.specs.declared.Setup.{Setup}
+use Rattle.moves.specs.declared.Travel.{Travel}
 use Rattle.moves.specs.declared.Pen.{Pen}
 use Rattle.moves.specs.Decoded.{courseOf}
 use Rattle.moves.specs.Steps.{lineStep, goesUp}
@@ -39,7 +39,7 @@ drawingAfter dimensions steps rose (Block inside column row) =
     choose (ltb column (dimensions .x)) (Block inside (column + 1) row)
     (choose (ltb row (dimensions .y)) (Block false 0 (row + 1)) (Nothing false))
 
-pub drawing-moved : (s : Setup) (pen : Pen) → moved s pen .drawing ≡ drawingAfter (s .dimensions) (s .steps) (rises s (pen .e)) (pen .drawing)
+pub drawing-moved : (s : Travel) (pen : Pen) → moved s pen .drawing ≡ drawingAfter (s .dimensions) (s .steps) (rises s (pen .e)) (pen .drawing)
 unfolding moved movedBy lineMoved codesMoved blockMoved penGone penStepped penWith columnPassed rowPassed drawingAfter
 drawing-moved s pen = by (pen .drawing) refl
   where
@@ -180,13 +180,13 @@ module _ (operations : ℕ) (dimensions : Point) (steps : ℕ) (rose : Bool) (bo
 -- ---- a move of any kind
 
 -- a line's bit is set only in mode 11
-rises-boundary : (operations : ℕ) (s : Setup) (e : ℤ) → s .course ≡ courseOf operations → rises s e ≡ true → eqb (modeOf operations) 3 ≡ true
+rises-boundary : (operations : ℕ) (s : Travel) (e : ℤ) → s .course ≡ courseOf operations → rises s e ≡ true → eqb (modeOf operations) 3 ≡ true
 unfolding rises courseOf
 rises-boundary operations s e fits h =
     ap (λ (k : Course). k .bounds) (sym fits) ∙ and-left (s .course .bounds) (goesUp (lineStep (s .course) e .y)) h
 
 -- the move of a drawing in hand, whose bit may have been turned at the position
-pub moved-counted : (operations : ℕ) (s : Setup) (pen : Pen) (inside : Bool) → s .course ≡ courseOf operations
+pub moved-counted : (operations : ℕ) (s : Travel) (pen : Pen) (inside : Bool) → s .course ≡ courseOf operations
     → countersHold operations (s .dimensions) (s .steps) (pen .drawing) ≡ true
     → (inside ≡ true → isFill operations ≡ true)
     → unfinished (pen .drawing) ≡ true

@@ -1,4 +1,4 @@
--- What every move keeps: what a step, a row's end and a passage keep, each move keeps; so used pointers stay inside their maps, the destination on its circle, and E on its own.
+-- What a step, a row's end and a passage keep, each move keeps: used pointers stay inside their maps, the destination and E on their circles.
 use mathlib.Core.Path.{_≡_, refl}
 use mathlib.Core.Bool.{Bool, true, false, not, _||_}
 use mathlib.Core.Logic.{_⊎_, ⊎-elim, inl, inr}
@@ -21,17 +21,18 @@ use Rattle.rules.specs.Starts.{codeAt}
 use Rattle.rules.proofs.PointerLaws.{inside-x, inside-y}
 use Rattle.moves.specs.declared.Turn.{Turn}
 use Rattle.moves.specs.declared.Step.{Step}
-use Rattle.moves.specs.declared.Setup.{Setup}
+use Rattle.moves.specs.declared.Travel.{Travel}
 use Rattle.moves.specs.declared.Pen.{Pen}
 use Rattle.moves.specs.Turns.{turnedBy, pointStepped, spotStepped}
-use Rattle.moves.specs.Moves.{penStepped, penWith, penGone, lineError, lineMoved, codesMoved, columnPassed, rowPoint, rowSpot, rowPassed, blockMoved, movedBy, moved}
+use Rattle.moves.specs.Moves.{penStepped, penWith, penGone, lineError, lineMoved, codesMoved}
+use Rattle.moves.specs.Moves.{columnPassed, rowPoint, rowSpot, rowPassed, blockMoved, movedBy, moved}
 use Rattle.moves.specs.Inner.{pointersInside}
 use Rattle.moves.proofs.TurnLaws.{turned-in}
 use Rattle.moves.proofs.CircledLaws.{OnCircle, circled-on}
 
 -- ---- what each kind of move keeps
 
-module _ (s : Setup) (P : Pen → Type 0)
+module _ (s : Travel) (P : Pen → Type 0)
     (step : (from to : Step) (e : ℤ) (d : Drawing) (pen : Pen) → (e ≡ pen .e) ⊎ (e ≡ lineError s (pen .e)) → P pen → P (penStepped s from to e d pen))
     (row : (d : Drawing) (pen : Pen) → P pen → P (rowPassed s d pen))
     (pass : (d : Drawing) (pen : Pen) → P pen → P (penWith d pen)) where
@@ -62,40 +63,42 @@ used-inside : (used : Bool) (map : Map) (t u : Turn) (j k : ℕ) (p : Point) →
 used-inside used map t u j k p h =
     by-test (λ (q : Point). isInside map q ≡ true) used (λ yes. turned-inside map t u j k p h) (λ no. h)
 
-pub source-inside : (s : Setup) (pen : Pen) → isInside (s .source) (pen .source) ≡ true
-    → isInside (s .source) (moved s pen .source) ≡ true
+pub source-inside : (s : Travel) (pen : Pen) → isInside (s .source .map) (pen .pointers .source) ≡ true
+    → isInside (s .source .map) (moved s pen .pointers .source) ≡ true
 unfolding penStepped penWith rowPassed pointStepped rowPoint
 source-inside s =
-    kept s (λ pen. isInside (s .source) (pen .source) ≡ true)
-    (λ from to e d pen known. used-inside (s .flow .source) (s .source) _ _ _ _ (pen .source))
-    (λ d pen. used-inside (s .flow .source) (s .source) _ _ _ _ (pen .source))
+    kept s (λ pen. isInside (s .source .map) (pen .pointers .source) ≡ true)
+    (λ from to e d pen known. used-inside (s .source .used) (s .source .map) _ _ _ _ (pen .pointers .source))
+    (λ d pen. used-inside (s .source .used) (s .source .map) _ _ _ _ (pen .pointers .source))
     (λ d pen h. h)
 
-pub pattern-inside : (s : Setup) (pen : Pen) → isInside (s .pattern) (pen .pattern) ≡ true
-    → isInside (s .pattern) (moved s pen .pattern) ≡ true
+pub pattern-inside : (s : Travel) (pen : Pen) → isInside (s .pattern .map) (pen .pointers .pattern) ≡ true
+    → isInside (s .pattern .map) (moved s pen .pointers .pattern) ≡ true
 unfolding penStepped penWith rowPassed pointStepped rowPoint
 pattern-inside s =
-    kept s (λ pen. isInside (s .pattern) (pen .pattern) ≡ true)
-    (λ from to e d pen known. used-inside (s .flow .pattern) (s .pattern) _ _ _ _ (pen .pattern))
-    (λ d pen. used-inside (s .flow .pattern) (s .pattern) _ _ _ _ (pen .pattern))
+    kept s (λ pen. isInside (s .pattern .map) (pen .pointers .pattern) ≡ true)
+    (λ from to e d pen known. used-inside (s .pattern .used) (s .pattern .map) _ _ _ _ (pen .pointers .pattern))
+    (λ d pen. used-inside (s .pattern .used) (s .pattern .map) _ _ _ _ (pen .pointers .pattern))
     (λ d pen h. h)
 
 -- what that says of a used pointer
-pub source-in : (s : Setup) (pen : Pen) → pointersInside s pen ≡ true → s .flow .source ≡ true → isInside (s .source) (pen .source) ≡ true
-source-in s pen h = asked (s .flow .source) _ (search (h, and-left))
+pub source-in : (s : Travel) (pen : Pen) → pointersInside s pen ≡ true → s .source .used ≡ true → isInside (s .source .map) (pen .pointers .source) ≡ true
+source-in s pen h = asked (s .source .used) _ (search (h, and-left))
 
-pub pattern-in : (s : Setup) (pen : Pen) → pointersInside s pen ≡ true → s .flow .pattern ≡ true → isInside (s .pattern) (pen .pattern) ≡ true
-pattern-in s pen h = asked (s .flow .pattern) _ (search (h, and-right))
+pub pattern-in : (s : Travel) (pen : Pen) → pointersInside s pen ≡ true → s .pattern .used ≡ true → isInside (s .pattern .map) (pen .pointers .pattern) ≡ true
+pattern-in s pen h = asked (s .pattern .used) _ (search (h, and-right))
 
 where-used : (used : Bool) (map : Map) (p q : Point) → (isInside map p ≡ true → isInside map q ≡ true)
     → (not used || isInside map p) ≡ true → (not used || isInside map q) ≡ true
 where-used true map p q keeps h = keeps h
 where-used false map p q keeps h = refl
 
-pub pointers-moved : (s : Setup) (pen : Pen) → pointersInside s pen ≡ true → pointersInside s (moved s pen) ≡ true
+pub pointers-moved : (s : Travel) (pen : Pen) → pointersInside s pen ≡ true → pointersInside s (moved s pen) ≡ true
 pointers-moved s pen h =
-    let source = where-used (s .flow .source) (s .source) (pen .source) (moved s pen .source) (source-inside s pen) (search and-left) in
-    let pattern = where-used (s .flow .pattern) (s .pattern) (pen .pattern) (moved s pen .pattern) (pattern-inside s pen) (search and-right) in
+    let p = pen .pointers in
+    let q = moved s pen .pointers in
+    let source = where-used (s .source .used) (s .source .map) (p .source) (q .source) (source-inside s pen) (search and-left) in
+    let pattern = where-used (s .pattern .used) (s .pattern .map) (p .pattern) (q .pattern) (pattern-inside s pen) (search and-right) in
     search and-both
 
 -- ---- the destination on its circle, and E on its own
@@ -104,19 +107,19 @@ pointers-moved s pen h =
 abbrev pub SpotOn : Spot → Type 0
 SpotOn p = OnCircle (p .x) × OnCircle (p .y)
 
-pub destination-moved : (s : Setup) (pen : Pen) → SpotOn (pen .destination) → SpotOn (moved s pen .destination)
+pub destination-moved : (s : Travel) (pen : Pen) → SpotOn (pen .pointers .destination) → SpotOn (moved s pen .pointers .destination)
 unfolding penStepped penWith rowPassed spotStepped rowSpot
 destination-moved s =
-    kept s (λ pen. SpotOn (pen .destination))
+    kept s (λ pen. SpotOn (pen .pointers .destination))
     (λ from to e d pen known on. (circled-on _ _ _ (on .0), circled-on _ _ _ (on .1)))
     (λ d pen on. (circled-on _ _ _ (on .0), circled-on _ _ _ (on .1)))
     (λ d pen on. on)
 
-pub line-error-on : (s : Setup) (e : ℤ) → circle 8192 16384 (lineError s e) ≡ lineError s e
+pub line-error-on : (s : Travel) (e : ℤ) → circle 8192 16384 (lineError s e) ≡ lineError s e
 unfolding lineError
-line-error-on s e = circle-circle 8192 16384 (lit< tt) (e +ℤ choose (ltZ e (pos 0)) (s .k1) (s .k2))
+line-error-on s e = circle-circle 8192 16384 (lit< tt) (e +ℤ choose (ltZ e (pos 0)) (s .terms .k1) (s .terms .k2))
 
-pub error-moved : (s : Setup) (pen : Pen) → circle 8192 16384 (pen .e) ≡ pen .e → circle 8192 16384 (moved s pen .e) ≡ moved s pen .e
+pub error-moved : (s : Travel) (pen : Pen) → circle 8192 16384 (pen .e) ≡ pen .e → circle 8192 16384 (moved s pen .e) ≡ moved s pen .e
 unfolding penStepped penWith rowPassed
 error-moved s =
     kept s (λ pen. circle 8192 16384 (pen .e) ≡ pen .e)

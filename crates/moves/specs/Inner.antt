@@ -3,19 +3,19 @@ use mathlib.Core.Bool.{Bool, not, _&&_, _||_}
 use Rattle.rules.specs.Maps.{isInside}
 use Rattle.moves.specs.declared.Way.{Way}
 use Rattle.moves.specs.declared.Way.the-variants.{Along, Row, Here}
-use Rattle.moves.specs.declared.Setup.{Setup}
+use Rattle.moves.specs.declared.Travel.{Travel}
 use Rattle.moves.specs.declared.Pen.{Pen}
 use Rattle.moves.specs.Moves.{penStepped, penWith, rowPassed}
 
 -- the pen after going this way: its used pointers stepped, past a row's end, or as it is with another drawing in hand
-unfoldable pub gone : Setup → Way → Pen → Pen
-gone s (Along fromX fromY toX toY e drawing) pen =
+unfoldable pub wentBy : Travel → Way → Pen → Pen
+wentBy s (Along fromX fromY toX toY e drawing) pen =
     penStepped s (record { x = fromX; y = fromY }) (record { x = toX; y = toY }) e drawing pen
-gone s (Row drawing) pen = rowPassed s drawing pen
-gone s (Here drawing) pen = penWith drawing pen
+wentBy s (Row drawing) pen = rowPassed s drawing pen
+wentBy s (Here drawing) pen = penWith drawing pen
 
 -- used source and pattern pointers lie in their maps
-abbrev pub pointersInside : Setup → Pen → Bool
+abbrev pub pointersInside : Travel → Pen → Bool
 pointersInside s pen =
-    (not (s .flow .source) || isInside (s .source) (pen .source))
-    && (not (s .flow .pattern) || isInside (s .pattern) (pen .pattern))
+    (not (s .source .used) || isInside (s .source .map) (pen .pointers .source))
+    && (not (s .pattern .used) || isInside (s .pattern .map) (pen .pointers .pattern))

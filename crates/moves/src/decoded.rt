@@ -1,18 +1,20 @@
 ghost use mathlib.Core.Path.{_≡_};
 ghost use mathlib.Core.Bool.{_||_};
 ghost use lib.Dec.{eqb};
-ghost use Rattle.moves.specs.Decoded.{signOf, courseOf, flowOf, edgeOf};
+ghost use Rattle.moves.specs.Decoded.{signOf, courseOf, travelOf};
 use crate::Course;
-use crate::Flow;
+use crate::Ground;
+use crate::Travel;
 use crate::Turn;
-use rules::operations::background_source;
-use rules::operations::foreground_source;
+use parts::shapes::Point;
+use parts::shapes::Terms;
+use pixels::Map;
+use rules::maps::map_at;
 use rules::operations::function_of;
-use rules::operations::is_fill;
-use rules::operations::mask_mode;
 use rules::operations::mode_of;
 use rules::operations::octant_of;
 use rules::operations::pattern_field;
+use rules::operations::source_field;
 use rules::operations::uses_pattern;
 use rules::operations::uses_source;
 
@@ -31,7 +33,7 @@ fn is_read(function: u32) -> bool
 }
 
 // Which way a drawing goes.
-pub fn course_of(operations: u32) -> Course
+fn course_of(operations: u32) -> Course
     ensures { λ r. ⌜ r ≡ courseOf operations ⌝ }
 {
     let function = function_of(operations);
@@ -46,25 +48,31 @@ pub fn course_of(operations: u32) -> Course
     }
 }
 
-// Which maps a drawing uses, where its colours come from, its modes, and whether it fills an area.
-pub fn flow_of(operations: u32) -> Flow
-    ensures { λ r. ⌜ r ≡ flowOf operations ⌝ }
+// What the moves of a drawing need.
+pub fn travel_of(
+    operations: u32,
+    maps: [Map; 4],
+    dimensions: Point,
+    steps: u32,
+    terms: Terms,
+) -> Travel
+    ensures { λ r. ⌜ r ≡ travelOf operations maps dimensions steps terms ⌝ }
 {
-    Flow {
-        source: uses_source(operations),
-        pattern: uses_pattern(operations),
-        derived: pattern_field(operations) == 9,
-        foreground: foreground_source(operations) == 2,
-        background: background_source(operations) == 2,
-        mask: mask_mode(operations) as u8,
-        mode: mode_of(operations) as u8,
-        fills: is_fill(operations),
+    let course = course_of(operations);
+    let source = Ground {
+        used: uses_source(operations),
+        map: map_at(maps, source_field(operations)),
+    };
+    let pattern = Ground {
+        used: uses_pattern(operations),
+        map: map_at(maps, pattern_field(operations)),
+    };
+    Travel {
+        course,
+        source,
+        pattern,
+        dimensions,
+        steps,
+        terms,
     }
-}
-
-// The lowest X that a destination counts as: column 0 where an area boundary is drawn, and otherwise any.
-pub fn edge_of(operations: u32) -> i16
-    ensures { λ r. ⌜ r ≡ edgeOf operations ⌝ }
-{
-    if mode_of(operations) == 3 { 0 } else { -2048 }
 }

@@ -1,16 +1,15 @@
 // The move to the next position: pointers, E and counters. It never reads memory.
 use parts::drawing::Drawing;
-use parts::shapes::Compare;
-use parts::shapes::Ink;
 use parts::shapes::Point;
-use parts::shapes::Spot;
+use parts::shapes::Pointers;
+use parts::shapes::Terms;
 use pixels::Map;
 
 pub mod decoded;
 pub mod passage;
-pub mod pens;
+mod pens;
 pub mod steps;
-pub mod turns;
+mod turns;
 mod ways;
 
 // One pointer's part of a step.
@@ -37,18 +36,6 @@ pub struct Course {
     pub bounds: bool,
 }
 
-// Which maps a drawing uses, where its colours come from, its mask and drawing modes, and whether it fills an area.
-pub struct Flow {
-    pub source: bool,
-    pub pattern: bool,
-    pub derived: bool,
-    pub foreground: bool,
-    pub background: bool,
-    pub mask: u8,
-    pub mode: u8,
-    pub fills: bool,
-}
-
 // How the pen comes to the next position: along a step, over a row's end, or not at all; and the drawing in hand there.
 // Along a step, source and pattern go by `from` and the destination by `to`.
 pub enum Way {
@@ -68,32 +55,26 @@ pub enum Way {
     },
 }
 
-// What a drawing does not change, decoded once: the maps that it uses, the registers that it reads, and the lowest X that its
-// destination counts as.
-pub struct Setup {
+// A map in which a pointer steps, and whether the drawing uses it.
+pub struct Ground {
+    pub used: bool,
+    pub map: Map,
+}
+
+// What the moves need, which a drawing does not change: which way it goes, the maps of the source and pattern pointers, its
+// dimensions, its step codes, and K1 and K2 of the terms; E is the pen's.
+pub struct Travel {
     pub course: Course,
-    pub flow: Flow,
-    pub destination: Map,
-    pub source: Map,
-    pub pattern: Map,
-    pub mask: Map,
-    pub foreground: Ink,
-    pub background: Ink,
-    pub compare: Compare,
-    pub planes: u32,
-    pub origin: Point,
+    pub source: Ground,
+    pub pattern: Ground,
     pub dimensions: Point,
     pub steps: u32,
-    pub k1: i32,
-    pub k2: i32,
-    pub edge: i16,
+    pub terms: Terms,
 }
 
 // What a drawing changes beside memory.
 pub struct Pen {
-    pub source: Point,
-    pub pattern: Point,
-    pub destination: Spot,
+    pub pointers: Pointers,
     pub e: i32,
     pub drawing: Drawing,
 }

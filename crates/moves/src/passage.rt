@@ -4,20 +4,20 @@ ghost use Rattle.parts.specs.Drawings.{withInside};
 ghost use Rattle.moves.specs.Moves.{penWith, moved};
 ghost use Rattle.moves.specs.Inner.{pointersInside};
 use crate::Pen;
-use crate::Setup;
+use crate::Travel;
 use crate::Way;
 use crate::pens::pass_row;
 use crate::pens::pen_with;
 use crate::pens::step_pen;
 use crate::ways::way_of;
 
-// The pen after this position, where a fill is inside or not; its used pointers lie in their maps, and with nothing in hand it stays. The ways of all drawings meet here, so that a loop over
-// positions has one step in it and copies no set-up to take it.
-pub fn next(setup: Setup, inside: bool, pen: Pen) -> Pen
-    requires { ⌜ pointersInside setup pen ≡ true ⌝ }
-    ensures { λ r. ⌜ r ≡ moved setup (penWith (withInside inside (pen .drawing)) pen) ⌝ }
+// The pen after this position, where a fill is inside or not; its used pointers lie in their maps, and with nothing in hand it
+// stays. The ways of all drawings meet here, so that a loop over positions has one step in it.
+pub fn next(travel: Travel, inside: bool, pen: Pen) -> Pen
+    requires { ⌜ pointersInside travel pen ≡ true ⌝ }
+    ensures { λ r. ⌜ r ≡ moved travel (penWith (withInside inside (pen .drawing)) pen) ⌝ }
 {
-    let way = way_of(setup, inside, pen);
+    let way = way_of(travel, inside, pen);
     match way {
         Way::Along {
             from_x,
@@ -26,8 +26,8 @@ pub fn next(setup: Setup, inside: bool, pen: Pen) -> Pen
             to_y,
             e,
             drawing,
-        } => step_pen(setup, from_x, from_y, to_x, to_y, e, drawing, pen),
-        Way::Row { drawing } => pass_row(setup, drawing, pen),
+        } => step_pen(travel, from_x, from_y, to_x, to_y, e, drawing, pen),
+        Way::Row { drawing } => pass_row(travel, drawing, pen),
         Way::Here { drawing } => pen_with(drawing, pen),
     }
 }

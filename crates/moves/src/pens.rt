@@ -7,7 +7,7 @@ ghost use Rattle.moves.specs.Moves as defined;
 ghost use Rattle.moves.specs.Inner.{pointersInside};
 use crate::Course;
 use crate::Pen;
-use crate::Setup;
+use crate::Travel;
 use crate::Turn;
 use crate::turns::circle_by;
 use crate::turns::opposite;
@@ -15,6 +15,7 @@ use crate::turns::turn_by;
 use crate::turns::turn_once;
 use parts::drawing::Drawing;
 use parts::shapes::Point;
+use parts::shapes::Pointers;
 use parts::shapes::Spot;
 
 // One step of a pointer in a map that ends at `last`, where the map is used.
@@ -28,7 +29,7 @@ fn turn_used(used: bool, turn: Turn, last: u16, x: u16) -> u16
 // The pen with its used pointers stepped, source and pattern by `from` and the destination by `to`. Each pointer's two
 // parts go by themselves, so that a loop over positions need not pack them.
 pub(crate) fn step_pen(
-    setup: Setup,
+    travel: Travel,
     from_x: Turn,
     from_y: Turn,
     to_x: Turn,
@@ -37,36 +38,49 @@ pub(crate) fn step_pen(
     drawing: Drawing,
     pen: Pen,
 ) -> Pen
-    requires { ⌜ pointersInside setup pen ≡ true ⌝ }
+    requires { ⌜ pointersInside travel pen ≡ true ⌝ }
     ensures { λ r.
-        ⌜ r ≡ defined.penStepped setup (record { x = «from_x»; y = «from_y» }) (record { x = «to_x»; y = «to_y» }) e drawing pen ⌝ }
+        ⌜ r ≡ defined.penStepped travel (record { x = «from_x»; y = «from_y» }) (record { x = «to_x»; y = «to_y» }) e drawing pen ⌝ }
 {
     let source = Point {
-        x: turn_used(setup.flow.source, from_x, setup.source.width, pen.source.x),
-        y: turn_used(setup.flow.source, from_y, setup.source.height, pen.source.y),
+        x: turn_used(
+            travel.source.used,
+            from_x,
+            travel.source.map.width,
+            pen.pointers.source.x,
+        ),
+        y: turn_used(
+            travel.source.used,
+            from_y,
+            travel.source.map.height,
+            pen.pointers.source.y,
+        ),
     };
     let pattern = Point {
         x: turn_used(
-            setup.flow.pattern,
+            travel.pattern.used,
             from_x,
-            setup.pattern.width,
-            pen.pattern.x,
+            travel.pattern.map.width,
+            pen.pointers.pattern.x,
         ),
         y: turn_used(
-            setup.flow.pattern,
+            travel.pattern.used,
             from_y,
-            setup.pattern.height,
-            pen.pattern.y,
+            travel.pattern.map.height,
+            pen.pointers.pattern.y,
         ),
     };
     let destination = Spot {
-        x: circle_by(to_x, 1, pen.destination.x),
-        y: circle_by(to_y, 1, pen.destination.y),
+        x: circle_by(to_x, 1, pen.pointers.destination.x),
+        y: circle_by(to_y, 1, pen.pointers.destination.y),
     };
-    Pen {
+    let pointers = Pointers {
         source,
         pattern,
         destination,
+    };
+    Pen {
+        pointers,
         e,
         drawing,
     }
@@ -77,36 +91,39 @@ pub(crate) fn pen_with(drawing: Drawing, pen: Pen) -> Pen
     ensures { λ r. ⌜ r ≡ defined.penWith drawing pen ⌝ }
 {
     let source = Point {
-        x: pen.source.x,
-        y: pen.source.y,
+        x: pen.pointers.source.x,
+        y: pen.pointers.source.y,
     };
     let pattern = Point {
-        x: pen.pattern.x,
-        y: pen.pattern.y,
+        x: pen.pointers.pattern.x,
+        y: pen.pointers.pattern.y,
     };
     let destination = Spot {
-        x: pen.destination.x,
-        y: pen.destination.y,
+        x: pen.pointers.destination.x,
+        y: pen.pointers.destination.y,
     };
-    Pen {
+    let pointers = Pointers {
         source,
         pattern,
         destination,
+    };
+    Pen {
+        pointers,
         e: pen.e,
         drawing,
     }
 }
 
 // The X of a source or pattern pointer after a row, where the map is used.
-fn return_used(used: bool, setup: Setup, last: u16, x: u16) -> u16
+fn return_used(used: bool, travel: Travel, last: u16, x: u16) -> u16
     requires { ⌜ (used ≡ true → x ≤ last) ⌝ }
     ensures { λ r.
-        ⌜ r ≡ choose used (turned.turnedBy (turned.opposite (setup .course .x)) (setup .dimensions .x) last x) x ⌝ }
+        ⌜ r ≡ choose used (turned.turnedBy (turned.opposite (travel .course .x)) (travel .dimensions .x) last x) x ⌝ }
 {
-    let course = setup.course;
+    let course = travel.course;
     let across = course.x;
     if used {
-        turn_by(opposite(across), setup.dimensions.x, last, x)
+        turn_by(opposite(across), travel.dimensions.x, last, x)
     } else {
         x
     }
@@ -121,47 +138,60 @@ fn destination_down(course: Course) -> Turn
 }
 
 // The destination's X after a row.
-fn return_by(setup: Setup, x: i16) -> i16
-    ensures { λ r. ⌜ r ≡ turned.circledBy (turned.opposite (setup .course .x)) (setup .dimensions .x) x ⌝ }
+fn return_by(travel: Travel, x: i16) -> i16
+    ensures { λ r. ⌜ r ≡ turned.circledBy (turned.opposite (travel .course .x)) (travel .dimensions .x) x ⌝ }
 {
-    let course = setup.course;
+    let course = travel.course;
     let across = course.x;
-    circle_by(opposite(across), setup.dimensions.x, x)
+    circle_by(opposite(across), travel.dimensions.x, x)
 }
 
 // The pen after a row.
-pub(crate) fn pass_row(setup: Setup, drawing: Drawing, pen: Pen) -> Pen
-    requires { ⌜ pointersInside setup pen ≡ true ⌝ }
-    ensures { λ r. ⌜ r ≡ defined.rowPassed setup drawing pen ⌝ }
+pub(crate) fn pass_row(travel: Travel, drawing: Drawing, pen: Pen) -> Pen
+    requires { ⌜ pointersInside travel pen ≡ true ⌝ }
+    ensures { λ r. ⌜ r ≡ defined.rowPassed travel drawing pen ⌝ }
 {
-    let course = setup.course;
+    let course = travel.course;
     let down = course.y;
     let source = Point {
-        x: return_used(setup.flow.source, setup, setup.source.width, pen.source.x),
-        y: turn_used(setup.flow.source, down, setup.source.height, pen.source.y),
+        x: return_used(
+            travel.source.used,
+            travel,
+            travel.source.map.width,
+            pen.pointers.source.x,
+        ),
+        y: turn_used(
+            travel.source.used,
+            down,
+            travel.source.map.height,
+            pen.pointers.source.y,
+        ),
     };
     let pattern = Point {
         x: return_used(
-            setup.flow.pattern,
-            setup,
-            setup.pattern.width,
-            pen.pattern.x,
+            travel.pattern.used,
+            travel,
+            travel.pattern.map.width,
+            pen.pointers.pattern.x,
         ),
         y: turn_used(
-            setup.flow.pattern,
+            travel.pattern.used,
             down,
-            setup.pattern.height,
-            pen.pattern.y,
+            travel.pattern.map.height,
+            pen.pointers.pattern.y,
         ),
     };
     let destination = Spot {
-        x: return_by(setup, pen.destination.x),
-        y: circle_by(destination_down(course), 1, pen.destination.y),
+        x: return_by(travel, pen.pointers.destination.x),
+        y: circle_by(destination_down(course), 1, pen.pointers.destination.y),
     };
-    Pen {
+    let pointers = Pointers {
         source,
         pattern,
         destination,
+    };
+    Pen {
+        pointers,
         e: pen.e,
         drawing,
     }

@@ -60,7 +60,7 @@ pub fn moves_row(turn: Turn) -> bool
 }
 
 // Whether it moves it up.
-pub fn goes_up(turn: Turn) -> bool
+pub(crate) fn goes_up(turn: Turn) -> bool
     ensures { λ r. ⌜ r ≡ goesUp turn ⌝ }
 {
     match turn {

@@ -11,7 +11,7 @@ use numbers::circles::steps_back;
 use numbers::circles::steps_forth;
 
 // The other way.
-pub fn opposite(turn: Turn) -> Turn
+pub(crate) fn opposite(turn: Turn) -> Turn
     ensures { λ r. ⌜ r ≡ defined.opposite turn ⌝ }
 {
     match turn {
@@ -44,7 +44,7 @@ fn back_by(count: u16, last: u16, x: u16) -> u16
 }
 
 // `count` steps of a pointer in a map that ends at `last`.
-pub fn turn_by(turn: Turn, count: u16, last: u16, x: u16) -> u16
+pub(crate) fn turn_by(turn: Turn, count: u16, last: u16, x: u16) -> u16
     requires { ⌜ x ≤ last ⌝ }
     ensures { λ r. ⌜ r ≡ defined.turnedBy turn count last x ⌝ }
 {
@@ -56,7 +56,7 @@ pub fn turn_by(turn: Turn, count: u16, last: u16, x: u16) -> u16
 }
 
 // One step of a pointer in a map that ends at `last`.
-pub fn turn_once(turn: Turn, last: u16, x: u16) -> u16
+pub(crate) fn turn_once(turn: Turn, last: u16, x: u16) -> u16
     requires { ⌜ x ≤ last ⌝ }
     ensures { λ r. ⌜ r ≡ defined.turnedBy turn 1 last x ⌝ }
 {
@@ -68,7 +68,7 @@ pub fn turn_once(turn: Turn, last: u16, x: u16) -> u16
 }
 
 // `count` steps of a destination pointer.
-pub fn circle_by(turn: Turn, count: u16, z: i16) -> i16
+pub(crate) fn circle_by(turn: Turn, count: u16, z: i16) -> i16
     ensures { λ r. ⌜ r ≡ defined.circledBy turn count z ⌝ }
 {
     match turn {

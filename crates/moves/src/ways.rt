@@ -5,11 +5,11 @@ ghost use lib.Dec.{ltb};
 ghost use Rattle.numbers.specs.Choose.{choose};
 ghost use Rattle.parts.specs.Drawings.{withInside};
 ghost use Rattle.moves.specs.Moves as defined;
-ghost use Rattle.moves.specs.Inner.{gone};
+ghost use Rattle.moves.specs.Inner.{wentBy};
 use crate::Course;
 use crate::Pen;
-use crate::Setup;
 use crate::Step;
+use crate::Travel;
 use crate::Turn;
 use crate::Way;
 use crate::steps::code_step;
@@ -30,7 +30,8 @@ fn turn_in(read: bool, first: Turn, second: Turn) -> Turn
 // and any other the reverse.
 fn way_along(course: Course, step: Step, e: i32, drawing: Drawing) -> Way
     ensures { λ r.
-        ⌜ r ≡ Way.Along (defined.sourceBy course step .x) (defined.sourceBy course step .y) (defined.destinationBy course step .x) (defined.destinationBy course step .y) e drawing ⌝ }
+        ⌜ r ≡ Way.Along (defined.sourceBy course step .x) (defined.sourceBy course step .y)
+        (defined.destinationBy course step .x) (defined.destinationBy course step .y) e drawing ⌝ }
 {
     let x = step.x;
     let y = step.y;
@@ -45,39 +46,39 @@ fn way_along(course: Course, step: Step, e: i32, drawing: Drawing) -> Way
 }
 
 // E after a position of a line.
-fn line_error(setup: Setup, e: i32) -> i32
-    ensures { λ r. ⌜ r ≡ defined.lineError setup e ⌝ }
+fn line_error(travel: Travel, e: i32) -> i32
+    ensures { λ r. ⌜ r ≡ defined.lineError travel e ⌝ }
 {
     if e < 0 {
-        term_sum(e, setup.k1)
+        term_sum(e, travel.terms.k1)
     } else {
-        term_sum(e, setup.k2)
+        term_sum(e, travel.terms.k2)
     }
 }
 
 // Whether the step of a line sets its bit: it goes up a row, in an area boundary.
-fn rises(setup: Setup, e: i32) -> bool
-    ensures { λ r. ⌜ r ≡ defined.rises setup e ⌝ }
+fn rises(travel: Travel, e: i32) -> bool
+    ensures { λ r. ⌜ r ≡ defined.rises travel e ⌝ }
 {
-    let course = setup.course;
+    let course = travel.course;
     let step = line_step(course, e);
     let down = step.y;
     course.bounds & goes_up(down)
 }
 
 // The way from a position of a line.
-fn line_way(setup: Setup, done: u16, pen: Pen) -> Way
-    ensures { λ r. ⌜ gone setup r pen ≡ defined.lineMoved setup done pen ⌝ }
+fn line_way(travel: Travel, done: u16, pen: Pen) -> Way
+    ensures { λ r. ⌜ wentBy travel r pen ≡ defined.lineMoved travel done pen ⌝ }
 {
-    let course = setup.course;
-    if done < setup.dimensions.x {
+    let course = travel.course;
+    if done < travel.dimensions.x {
         way_along(
             course,
             line_step(course, pen.e),
-            line_error(setup, pen.e),
+            line_error(travel, pen.e),
             Drawing::Line {
                 done: done + 1,
-                rose: rises(setup, pen.e),
+                rose: rises(travel, pen.e),
             },
         )
     } else {
@@ -108,11 +109,11 @@ fn pass_code(steps: u32, count: u8, code: u16) -> Drawing
 }
 
 // The way from a position of a code.
-fn code_way(setup: Setup, count: u8, code: u16, done: u16, pen: Pen) -> Way
-    ensures { λ r. ⌜ gone setup r pen ≡ defined.codesMoved setup count code done pen ⌝ }
+fn code_way(travel: Travel, count: u8, code: u16, done: u16, pen: Pen) -> Way
+    ensures { λ r. ⌜ wentBy travel r pen ≡ defined.codesMoved travel count code done pen ⌝ }
 {
-    let course = setup.course;
-    let current = code_at(setup.steps, count, code);
+    let course = travel.course;
+    let current = code_at(travel.steps, count, code);
     if done < (current % 16) as u16 {
         way_along(
             course,
@@ -126,7 +127,7 @@ fn code_way(setup: Setup, count: u8, code: u16, done: u16, pen: Pen) -> Way
         )
     } else {
         Way::Here {
-            drawing: pass_code(setup.steps, count, code),
+            drawing: pass_code(travel.steps, count, code),
         }
     }
 }
@@ -147,12 +148,12 @@ fn row_after(row: u16, last: u16) -> Drawing
 }
 
 // The way from a position of a block.
-fn block_way(setup: Setup, column: u16, row: u16, inside: bool, pen: Pen) -> Way
-    ensures { λ r. ⌜ gone setup r pen ≡ defined.blockMoved setup column row inside pen ⌝ }
+fn block_way(travel: Travel, column: u16, row: u16, inside: bool, pen: Pen) -> Way
+    ensures { λ r. ⌜ wentBy travel r pen ≡ defined.blockMoved travel column row inside pen ⌝ }
 {
-    let course = setup.course;
+    let course = travel.course;
     let x = course.x;
-    if column < setup.dimensions.x {
+    if column < travel.dimensions.x {
         Way::Along {
             from_x: x,
             from_y: Turn::Stay,
@@ -167,24 +168,24 @@ fn block_way(setup: Setup, column: u16, row: u16, inside: bool, pen: Pen) -> Way
         }
     } else {
         Way::Row {
-            drawing: row_after(row, setup.dimensions.y),
+            drawing: row_after(row, travel.dimensions.y),
         }
     }
 }
 
 // The way from this position, where a fill is inside or not; with nothing in hand there is none.
-pub(crate) fn way_of(setup: Setup, inside: bool, pen: Pen) -> Way
-    ensures { λ r. ⌜ gone setup r pen ≡ defined.moved setup (defined.penWith (withInside inside (pen .drawing)) pen) ⌝ }
+pub(crate) fn way_of(travel: Travel, inside: bool, pen: Pen) -> Way
+    ensures { λ r. ⌜ wentBy travel r pen ≡ defined.moved travel (defined.penWith (withInside inside (pen .drawing)) pen) ⌝ }
 {
     let drawing = pen.drawing;
     match drawing {
         Drawing::Nothing { stopped: _ } => Way::Here { drawing },
-        Drawing::Line { done, rose: _ } => line_way(setup, done, pen),
-        Drawing::Codes { count, code, done } => code_way(setup, count, code, done, pen),
+        Drawing::Line { done, rose: _ } => line_way(travel, done, pen),
+        Drawing::Codes { count, code, done } => code_way(travel, count, code, done, pen),
         Drawing::Block {
             inside: _,
             column,
             row,
-        } => block_way(setup, column, row, inside, pen),
+        } => block_way(travel, column, row, inside, pen),
     }
 }

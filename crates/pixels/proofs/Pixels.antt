@@ -11,7 +11,7 @@ use Rattle.numbers.proofs.Order.{lt-or-le, eq-or-ne}
 use Rattle.pixels.specs.declared.Map.{Map}
 use Rattle.pixels.specs.Maps.{bitsOf, placeOf, shiftOf}
 use Rattle.pixels.specs.Pixels.{byteAt, pixelAt, withPixel}
-use Rattle.pixels.specs.Inner.{foundAt}
+use Rattle.pixels.specs.Inner.{cellAt}
 use Rattle.pixels.proofs.Maps.{in-byte, shifts-apart}
 
 -- ---- a pixel
@@ -22,14 +22,14 @@ module _ (memory : List ℕ) (map : Map) (x y : ℕ) where
   pixel-lt = field-lt (shiftOf map x y) (bitsOf (map .format)) (byteAt memory map x y)
 
   -- its bits lie within one byte
-  pub found-in-byte : foundAt memory map x y .shift + foundAt memory map x y .bits ≤ 8
-  unfolding foundAt
-  found-in-byte = in-byte map x y
+  pub cell-in-byte : cellAt memory map x y .shift + cellAt memory map x y .bits ≤ 8
+  unfolding cellAt
+  cell-in-byte = in-byte map x y
 
   -- and that byte is in the memory where the pixel lies there
-  pub found-in-memory : placeOf map x y < length memory → foundAt memory map x y .at < length memory
-  unfolding foundAt
-  found-in-memory h = h
+  pub cell-in-memory : placeOf map x y < length memory → cellAt memory map x y .at < length memory
+  unfolding cellAt
+  cell-in-memory h = h
 
   pub pixel-beyond : length memory ≤ placeOf map x y → pixelAt memory map x y ≡ 0
   unfolding byteAt pixelAt

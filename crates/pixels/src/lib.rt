@@ -6,7 +6,7 @@ ghost use lib.ListN.{length, set};
 ghost use Rattle.numbers.specs.Fields.{field, withField};
 ghost use Rattle.pixels.specs.Maps.{bitsOf, neededOf, placeOf, shiftOf};
 ghost use Rattle.pixels.specs.Pixels.{pixelAt, withPixel};
-ghost use Rattle.pixels.specs.Inner.{foundAt};
+ghost use Rattle.pixels.specs.Inner.{cellAt};
 
 // A pixel map: where it starts, one less than its width and height in pixels, and its format code.
 pub struct Map {
@@ -17,7 +17,7 @@ pub struct Map {
 }
 
 // A pixel's bits in its byte: the byte's index, what it holds, and how far up and how many the bits are.
-pub struct Found {
+pub struct Cell {
     pub at: usize,
     pub byte: u8,
     pub shift: u32,
@@ -88,13 +88,13 @@ fn replaced(byte: u8, shift: u32, bits: u32, value: u32) -> u8
 }
 
 // The pixel's bits in its byte, which lies in the memory.
-pub fn find(memory: &[u8], map: Map, x: u16, y: u16) -> Found
+pub fn find(memory: &[u8], map: Map, x: u16, y: u16) -> Cell
     requires { ⌜ placeOf map x y < length (now memory) ⌝ }
-    ensures { λ r. ⌜ r ≡ foundAt (now (memory .entry)) map x y ⌝ }
+    ensures { λ r. ⌜ r ≡ cellAt (now (memory .entry)) map x y ⌝ }
 {
     let at = place(map, x, y);
     let byte = memory[at];
-    Found {
+    Cell {
         at,
         byte,
         shift: shift(map, x, y),
@@ -102,22 +102,22 @@ pub fn find(memory: &[u8], map: Map, x: u16, y: u16) -> Found
     }
 }
 
-// The pixel that was found.
-pub fn value(found: Found) -> u32
-    requires { ⌜ found .shift + found .bits ≤ 8 ⌝ }
-    ensures { λ r. ⌜ r ≡ field (found .shift) (found .bits) (found .byte) ⌝ }
+// The pixel of the cell.
+pub fn value(cell: Cell) -> u32
+    requires { ⌜ cell .shift + cell .bits ≤ 8 ⌝ }
+    ensures { λ r. ⌜ r ≡ field (cell .shift) (cell .bits) (cell .byte) ⌝ }
 {
-    taken(found.byte, found.shift, found.bits)
+    taken(cell.byte, cell.shift, cell.bits)
 }
 
-// Stores the low bits of value as the pixel that was found.
-pub fn store(memory: &mut [u8], found: Found, value: u32)
-    requires { ⌜ (found .shift + found .bits ≤ 8) × (found .at < length (now memory)) ⌝ }
+// Stores the low bits of value as the pixel of the cell.
+pub fn store(memory: &mut [u8], cell: Cell, value: u32)
+    requires { ⌜ (cell .shift + cell .bits ≤ 8) × (cell .at < length (now memory)) ⌝ }
     ensures { λ _.
-        ⌜ now (memory .exit) ≡ set (now (memory .entry)) (found .at) (withField (found .shift) (found .bits) value (found .byte)) ⌝ }
+        ⌜ now (memory .exit) ≡ set (now (memory .entry)) (cell .at) (withField (cell .shift) (cell .bits) value (cell .byte)) ⌝ }
 {
-    let at = found.at;
-    memory[at] = replaced(found.byte, found.shift, found.bits, value);
+    let at = cell.at;
+    memory[at] = replaced(cell.byte, cell.shift, cell.bits, value);
 }
 
 // The pixel, which lies in the memory.
@@ -133,6 +133,6 @@ pub fn put(memory: &mut [u8], map: Map, x: u16, y: u16, value: u32)
     requires { ⌜ placeOf map x y < length (now memory) ⌝ }
     ensures { λ _. ⌜ now (memory .exit) ≡ withPixel (now (memory .entry)) map x y value ⌝ }
 {
-    let found = find(memory, map, x, y);
-    store(memory, found, value);
+    let cell = find(memory, map, x, y);
+    store(memory, cell, value);
 }

@@ -1,10 +1,12 @@
 -- How the code asks it: what functions inside promise and ask of each other, proved from the rules; nothing here has to be believed.
-use mathlib.Core.Bool.{Bool, _||_}
-use lib.IntN.{ℤ}
+use Prim.Native.Nat.{ℕ}
 use Rattle.parts.specs.declared.drawing.Drawing.{Drawing}
-use Rattle.moves.specs.declared.Setup.{Setup}
-use Rattle.places.specs.Places.{isMove, nulledBy}
+use Rattle.parts.specs.declared.drawing.Drawing.the-variants.{Nothing, Line, Codes, Block}
+use Rattle.rules.specs.Starts.{codeAt}
 
--- nothing is written, wherever the position is: a move code, or what the drawing mode leaves out
-unfoldable pub heldBack : Setup → ℤ → Drawing → Bool
-heldBack s e d = isMove s d || nulledBy s e d
+-- the code that is drawn, 0 where none is
+unfoldable pub codeIn : ℕ → Drawing → ℕ
+codeIn steps (Nothing stopped) = 0
+codeIn steps (Line rose done) = 0
+codeIn steps (Codes count code done) = codeAt steps count code
+codeIn steps (Block inside column row) = 0

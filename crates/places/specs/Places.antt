@@ -10,9 +10,11 @@ use Rattle.parts.specs.declared.drawing.Drawing.the-variants.{Nothing, Line, Co
 use Rattle.rules.specs.Starts.{codeAt}
 use Rattle.moves.specs.declared.Turn.{Turn}
 use Rattle.moves.specs.declared.Turn.the-variants.{Stay, Forth, Back}
-use Rattle.moves.specs.declared.Setup.{Setup}
+use Rattle.moves.specs.declared.Travel.{Travel}
 use Rattle.moves.specs.declared.Pen.{Pen}
 use Rattle.moves.specs.Steps.{lineStep, codeStep, movesRow}
+use Rattle.places.specs.declared.Brush.{Brush}
+use Rattle.places.specs.declared.Setup.{Setup}
 
 -- 01, One position: from 0 to the last column or row; edges are inside
 unfoldable pub isWithin : ℕ → ℤ → Bool
@@ -24,32 +26,34 @@ unfoldable pub columnOf : ℤ → ℕ
 columnOf (pos n) = n
 columnOf (negsuc n) = 0
 
--- 003, Area Outline Scissoring (lines 2031 to 2033); docs/DIFFERENCES.md, D5: the destination's X, and in an area boundary column 0 for one left of the map
-unfoldable pub placeX : Setup → Pen → ℤ
-placeX s pen = choose (ltZ (pen .destination .x) (s .edge)) (s .edge) (pen .destination .x)
+-- 003, Area Outline Scissoring (lines 2031 to 2033); docs/DIFFERENCES.md, D5: the destination's X, and in an area boundary column 0
+-- for one left of the map
+unfoldable pub placeX : Brush → Pen → ℤ
+placeX b pen = choose (ltZ (pen .pointers .destination .x) (b .edge)) (b .edge) (pen .pointers .destination .x)
 
 -- 01, One position: the destination is inside its map
-unfoldable pub onMap : Setup → Pen → Bool
-onMap s pen = isWithin (s .destination .width) (placeX s pen) && isWithin (s .destination .height) (pen .destination .y)
+unfoldable pub onMap : Brush → Pen → Bool
+onMap b pen = isWithin (b .destination .width) (placeX b pen) && isWithin (b .destination .height) (pen .pointers .destination .y)
 
 -- docs/DECISIONS.md, 14: the mask pixel is (destination - origin); its column
-unfoldable pub maskX : Setup → Pen → ℤ
-maskX s pen = placeX s pen -ℤ pos (s .origin .x)
+unfoldable pub maskX : Brush → Pen → ℤ
+maskX b pen = placeX b pen -ℤ pos (b .mask .origin .x)
 
 -- docs/DECISIONS.md, 14: and its row
-unfoldable pub maskY : Setup → Pen → ℤ
-maskY s pen = pen .destination .y -ℤ pos (s .origin .y)
+unfoldable pub maskY : Brush → Pen → ℤ
+maskY b pen = pen .pointers .destination .y -ℤ pos (b .mask .origin .y)
 
 -- 01, One position: inside the mask boundary, in modes 01 and 10
-unfoldable pub inMask : Setup → Pen → Bool
-inMask s pen = eqb (s .flow .mask) 0 || (isWithin (s .mask .width) (maskX s pen) && isWithin (s .mask .height) (maskY s pen))
+unfoldable pub inMask : Brush → Pen → Bool
+inMask b pen =
+    eqb (b .mask .mode) 0 || (isWithin (b .mask .map .width) (maskX b pen) && isWithin (b .mask .map .height) (maskY b pen))
 
 -- 01, The functions, Codes: bit 4 draws; a code without it only moves
-unfoldable pub isMove : Setup → Drawing → Bool
-isMove s (Nothing stopped) = false
-isMove s (Line rose done) = false
-isMove s (Codes count code done) = eqb (codeAt (s .steps) count code / 16 % 2) 0
-isMove s (Block inside column row) = false
+unfoldable pub isMove : Travel → Drawing → Bool
+isMove t (Nothing stopped) = false
+isMove t (Line rose done) = false
+isMove t (Codes count code done) = eqb (codeAt (t .steps) count code / 16 % 2) 0
+isMove t (Block inside column row) = false
 
 -- 01, The functions: the first position of a line or code
 unfoldable pub isFirst : Drawing → Bool
@@ -59,31 +63,35 @@ isFirst (Codes count code done) = eqb done 0
 isFirst (Block inside column row) = false
 
 -- 01, The functions: the last position of a line or code
-unfoldable pub isLast : Setup → Drawing → Bool
-isLast s (Nothing stopped) = false
-isLast s (Line rose done) = eqb done (s .dimensions .x)
-isLast s (Codes count code done) = eqb done (codeAt (s .steps) count code % 16)
-isLast s (Block inside column row) = false
+unfoldable pub isLast : Travel → Drawing → Bool
+isLast t (Nothing stopped) = false
+isLast t (Line rose done) = eqb done (t .dimensions .x)
+isLast t (Codes count code done) = eqb done (codeAt (t .steps) count code % 16)
+isLast t (Block inside column row) = false
 
--- 003, Area Boundary Drawing (lines 2024 to 2026): going up only the first of every horizontal run, going down only the last, going level none
+-- 003, Area Boundary Drawing (lines 2024 to 2026): going up only the first of every horizontal run, going down only the last, going
+-- level none
 unfoldable pub ofRun : Turn → Bool → Bool → Bool
 ofRun Stay first last = false
 ofRun Forth first last = last
 ofRun Back first last = first
 
--- 003, the same; 02, 102: the first of a run is the position that a step in Y led to, and the last the one that a step in Y leaves; each code is a line of its own
-unfoldable pub onBoundary : Setup → ℤ → Drawing → Bool
-onBoundary s e (Nothing stopped) = true
-onBoundary s e (Line rose done) =
-    ofRun (s .course .y) rose (not (isLast s (Line rose done)) && movesRow (lineStep (s .course) e .y))
-onBoundary s e (Codes count code done) =
-    ofRun (codeStep (codeAt (s .steps) count code) .y) (not (isFirst (Codes count code done))) (not (isLast s (Codes count code done)))
-onBoundary s e (Block inside column row) = true
+-- 003, the same; 02, 102: the first of a run is the position that a step in Y led to, and the last the one that a step in Y leaves;
+-- each code is a line of its own
+unfoldable pub onBoundary : Travel → ℤ → Drawing → Bool
+onBoundary t e (Nothing stopped) = true
+onBoundary t e (Line rose done) =
+    ofRun (t .course .y) rose (not (isLast t (Line rose done)) && movesRow (lineStep (t .course) e .y))
+onBoundary t e (Codes count code done) =
+    ofRun (codeStep (codeAt (t .steps) count code) .y) (not (isFirst (Codes count code done))) (not (isLast t (Codes count code done)))
+onBoundary t e (Block inside column row) = true
 
 -- 01, The functions: first null (mode 01), last null (mode 10); 02, 102: area boundary (mode 11); for each line and each code
 unfoldable pub nulledBy : Setup → ℤ → Drawing → Bool
 nulledBy s e d =
-    (eqb (s .flow .mode) 1 && isFirst d) || (eqb (s .flow .mode) 2 && isLast s d) || (eqb (s .flow .mode) 3 && not (onBoundary s e d))
+    (eqb (s .brush .flow .mode) 1 && isFirst d)
+    || (eqb (s .brush .flow .mode) 2 && isLast (s .travel) d)
+    || (eqb (s .brush .flow .mode) 3 && not (onBoundary (s .travel) e d))
 
 -- 01, One position: a nulled pixel, at the pen's E and drawing
 unfoldable pub isNulled : Setup → Pen → Bool

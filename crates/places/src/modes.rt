@@ -6,11 +6,13 @@ ghost use Prim.Native.Nat.{ℕ};
 ghost use lib.Dec.{eqb};
 ghost use lib.IntN.{ℤ};
 ghost use Rattle.rules.specs.Starts.{codeAt};
+ghost use Rattle.moves.specs.declared.Travel.{Travel};
 ghost use Rattle.moves.specs.Steps.{codeStep};
 ghost use Rattle.parts.specs.declared.drawing.Drawing.the-variants.{Line, Codes};
-ghost use Rattle.places.specs.Places.{ofRun, onBoundary, nulledBy};
-ghost use Rattle.places.specs.Inner.{heldBack};
-use moves::Setup;
+ghost use Rattle.places.specs.Places.{ofRun, isMove, onBoundary, nulledBy};
+ghost use Rattle.places.specs.Inner.{codeIn};
+use crate::Setup;
+use moves::Travel;
 use moves::Turn;
 use moves::steps::code_step;
 use moves::steps::line_step;
@@ -30,25 +32,25 @@ fn of_run(down: Turn, first: bool, last: bool) -> bool
 }
 
 // Whether a position of a line is drawn in an area boundary.
-fn line_bounds(setup: Setup, e: i32, rose: bool, done: u16) -> bool
-    ensures { λ r. ⌜ r ≡ onBoundary setup e (Line rose done) ⌝ }
+fn line_bounds(travel: Travel, e: i32, rose: bool, done: u16) -> bool
+    ensures { λ r. ⌜ r ≡ onBoundary travel e (Line rose done) ⌝ }
 {
-    let course = setup.course;
+    let course = travel.course;
     let step = line_step(course, e);
     let down = step.y;
     let way = course.y;
-    of_run(way, rose, (done != setup.dimensions.x) & moves_row(down))
+    of_run(way, rose, (done != travel.dimensions.x) & moves_row(down))
 }
 
 // Whether the drawing mode leaves out a position of a line.
 fn line_nulled(setup: Setup, e: i32, rose: bool, done: u16) -> bool
     ensures { λ r. ⌜ r ≡ nulledBy setup e (Line rose done) ⌝ }
 {
-    let mode = setup.flow.mode;
+    let mode = setup.brush.flow.mode;
     match mode {
         1 => done == 0,
-        2 => done == setup.dimensions.x,
-        3 => !line_bounds(setup, e, rose, done),
+        2 => done == setup.travel.dimensions.x,
+        3 => !line_bounds(setup.travel, e, rose, done),
         _ => false,
     }
 }
@@ -64,10 +66,11 @@ fn code_bounds(code: u8, done: u16, last: bool) -> bool
 
 // Whether the drawing mode leaves out a position of this code.
 fn code_nulled(setup: Setup, code: u8, done: u16) -> bool
-    ensures { λ r. ⌜ ((e : ℤ) (count i : ℕ) → codeAt (setup .steps) count i ≡ code → r ≡ nulledBy setup e (Codes count i done)) ⌝ }
+    ensures { λ r.
+        ⌜ ((e : ℤ) (count i : ℕ) → code ≡ codeAt (setup .travel .steps) count i → r ≡ nulledBy setup e (Codes count i done)) ⌝ }
 {
     let last = done == code as u16 % 16;
-    let mode = setup.flow.mode;
+    let mode = setup.brush.flow.mode;
     match mode {
         1 => done == 0,
         2 => last,
@@ -76,29 +79,39 @@ fn code_nulled(setup: Setup, code: u8, done: u16) -> bool
     }
 }
 
-// Whether a position of a code is held back; a code without bit 4 only moves.
-fn code_held_back(setup: Setup, count: u8, code: u16, done: u16) -> bool
-    ensures { λ r. ⌜ ((e : ℤ) → r ≡ heldBack setup e (Codes count code done)) ⌝ }
-{
-    let current = code_at(setup.steps, count, code);
-    if current / 16 % 2 == 0 {
-        return true;
-    }
-    code_nulled(setup, current, done)
-}
-
-// Whether a position is held back wherever it is.
-pub fn is_held_back(setup: Setup, e: i32, drawing: Drawing) -> bool
-    ensures { λ r. ⌜ r ≡ heldBack setup e drawing ⌝ }
+// The code that is drawn, 0 where none is.
+pub fn code_in(steps: u32, drawing: Drawing) -> u8
+    ensures { λ r. ⌜ r ≡ codeIn steps drawing ⌝ }
 {
     match drawing {
-        Drawing::Nothing { stopped: _ } => false,
+        Drawing::Nothing { .. } => 0,
+        Drawing::Line { .. } => 0,
+        Drawing::Codes { count, code, .. } => code_at(steps, count, code),
+        Drawing::Block { .. } => 0,
+    }
+}
+
+// Whether a position of this code only moves, as one of a code without bit 4 does.
+pub fn is_move(code: u8, drawing: Drawing) -> bool
+    ensures { λ r. ⌜ ((t : Travel) → code ≡ codeIn (t .steps) drawing → r ≡ isMove t drawing) ⌝ }
+{
+    match drawing {
+        Drawing::Nothing { .. } => false,
+        Drawing::Line { .. } => false,
+        Drawing::Codes { .. } => code / 16 % 2 == 0,
+        Drawing::Block { .. } => false,
+    }
+}
+
+// Whether the drawing mode leaves out a position, of this code where one is drawn.
+pub fn is_nulled(setup: Setup, code: u8, e: i32, drawing: Drawing) -> bool
+    requires { ⌜ code ≡ codeIn (setup .travel .steps) drawing ⌝ }
+    ensures { λ r. ⌜ r ≡ nulledBy setup e drawing ⌝ }
+{
+    match drawing {
+        Drawing::Nothing { .. } => false,
         Drawing::Line { rose, done } => line_nulled(setup, e, rose, done),
-        Drawing::Codes { count, code, done } => code_held_back(setup, count, code, done),
-        Drawing::Block {
-            inside: _,
-            column: _,
-            row: _,
-        } => false,
+        Drawing::Codes { done, .. } => code_nulled(setup, code, done),
+        Drawing::Block { .. } => false,
     }
 }

@@ -3,8 +3,8 @@ ghost use lib.IntN.{pos, _-ℤ_};
 ghost use lib.Signed.{ltZ};
 ghost use Rattle.numbers.specs.Choose.{choose};
 ghost use Rattle.places.specs.Places.{isWithin, columnOf, placeX, maskX, maskY, onMap, inMask};
+use crate::Brush;
 use moves::Pen;
-use moves::Setup;
 use parts::reduced::both;
 use parts::shapes::Point;
 
@@ -32,55 +32,63 @@ fn column_of(origin: u16, z: i16) -> u16
 }
 
 // The destination's X, and in an area boundary column 0 for one left of the map.
-fn place_x(setup: Setup, pen: Pen) -> i16
-    ensures { λ r. ⌜ r ≡ placeX setup pen ⌝ }
+fn place_x(brush: Brush, pen: Pen) -> i16
+    ensures { λ r. ⌜ r ≡ placeX brush pen ⌝ }
 {
-    if pen.destination.x < setup.edge {
-        setup.edge
+    if pen.pointers.destination.x < brush.edge {
+        brush.edge
     } else {
-        pen.destination.x
+        pen.pointers.destination.x
     }
 }
 
 // The destination's column and row.
-pub fn destination_of(setup: Setup, pen: Pen) -> Point
-    ensures { λ r. ⌜ (r .x ≡ columnOf (placeX setup pen)) × (r .y ≡ columnOf (pen .destination .y)) ⌝ }
+pub fn destination_of(brush: Brush, pen: Pen) -> Point
+    ensures { λ r. ⌜ (r .x ≡ columnOf (placeX brush pen)) × (r .y ≡ columnOf (pen .pointers .destination .y)) ⌝ }
 {
     Point {
-        x: column_of(0, place_x(setup, pen)),
-        y: column_of(0, pen.destination.y),
+        x: column_of(0, place_x(brush, pen)),
+        y: column_of(0, pen.pointers.destination.y),
     }
 }
 
 // The mask pixel's column and row.
-pub fn mask_of(setup: Setup, pen: Pen) -> Point
-    ensures { λ r. ⌜ (r .x ≡ columnOf (maskX setup pen)) × (r .y ≡ columnOf (maskY setup pen)) ⌝ }
+pub fn mask_of(brush: Brush, pen: Pen) -> Point
+    ensures { λ r. ⌜ (r .x ≡ columnOf (maskX brush pen)) × (r .y ≡ columnOf (maskY brush pen)) ⌝ }
 {
     Point {
-        x: column_of(setup.origin.x, place_x(setup, pen)),
-        y: column_of(setup.origin.y, pen.destination.y),
+        x: column_of(brush.mask.origin.x, place_x(brush, pen)),
+        y: column_of(brush.mask.origin.y, pen.pointers.destination.y),
     }
 }
 
 // Whether the destination is inside its map.
-pub fn on_map(setup: Setup, pen: Pen) -> bool
-    ensures { λ r. ⌜ r ≡ onMap setup pen ⌝ }
+pub fn on_map(brush: Brush, pen: Pen) -> bool
+    ensures { λ r. ⌜ r ≡ onMap brush pen ⌝ }
 {
     both(
-        is_within(0, setup.destination.width, place_x(setup, pen)),
-        is_within(0, setup.destination.height, pen.destination.y),
+        is_within(0, brush.destination.width, place_x(brush, pen)),
+        is_within(0, brush.destination.height, pen.pointers.destination.y),
     )
 }
 
 // Whether the destination is inside the mask boundary, where there is one.
-pub fn in_mask(setup: Setup, pen: Pen) -> bool
-    ensures { λ r. ⌜ r ≡ inMask setup pen ⌝ }
+pub fn in_mask(brush: Brush, pen: Pen) -> bool
+    ensures { λ r. ⌜ r ≡ inMask brush pen ⌝ }
 {
-    if setup.flow.mask == 0 {
+    if brush.mask.mode == 0 {
         return true;
     }
     both(
-        is_within(setup.origin.x, setup.mask.width, place_x(setup, pen)),
-        is_within(setup.origin.y, setup.mask.height, pen.destination.y),
+        is_within(
+            brush.mask.origin.x,
+            brush.mask.map.width,
+            place_x(brush, pen),
+        ),
+        is_within(
+            brush.mask.origin.y,
+            brush.mask.map.height,
+            pen.pointers.destination.y,
+        ),
     )
 }

@@ -6,9 +6,10 @@ ghost use Rattle.parts.specs.Drawings.{unfinished};
 ghost use Rattle.position.specs.Inner.{Safe};
 ghost use Rattle.runs.specs.Runs.{begun, after};
 use moves::Pen;
-use moves::Setup;
+use moves::passage::code_in;
 use moves::passage::next;
 use parts::drawing::is_unfinished;
+use places::Setup;
 use position::drawn::draw;
 
 // What a run leaves beside memory: the pen, and the positions done.
@@ -25,16 +26,19 @@ pub fn run(setup: Setup, from: Pen, memory: &mut [u8], allowance: u32) -> Ran
         × (r .done ≡ after setup allowance (begun from (now (memory .entry))) .done)
         × (now (memory .exit) ≡ after setup allowance (begun from (now (memory .entry))) .memory) ⌝ }
 {
+    let travel = setup.travel;
     let mut pen = from;
     let mut done: u32 = 0;
     let first = from.drawing;
     let mut going = is_unfinished(first);
     while (done < allowance) & going {
-        let inside = draw(setup, memory, pen);
-        pen = next(setup, inside, pen);
-        done += 1;
         let drawing = pen.drawing;
-        going = is_unfinished(drawing);
+        let code = code_in(travel.steps, drawing);
+        let inside = draw(setup, memory, code, pen);
+        pen = next(travel, code, inside, pen);
+        done += 1;
+        let following = pen.drawing;
+        going = is_unfinished(following);
     }
     Ran { pen, done }
 }

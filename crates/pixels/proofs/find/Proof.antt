@@ -1,6 +1,6 @@
 -- `find` is the definition, with each part of it found once; the byte is there by what is required.
 use Rattle.pixels.specs.Pixels.{byteAt}
-use Rattle.pixels.specs.Inner.{foundAt}
+use Rattle.pixels.specs.Inner.{cellAt}
 use borrow.Author.Needs.{needs}
 use Rattle.pixels.proofs.find.Statement.{statement}
 use Rattle.pixels.proofs.find.Tie as tie
@@ -18,7 +18,7 @@ bits-of-requires : tie.Need-bits-of-requires
 bits-of-requires c κs = search needs
 
 returns : tie.Need-returns
-unfolding byteAt foundAt
+unfolding byteAt cellAt
 returns c = rw (c .bits-of .ensures, c .before .shift .ensures, c .before .before .before .place .ensures)
 
 pub find-spec : {M : Type 1} → statement M

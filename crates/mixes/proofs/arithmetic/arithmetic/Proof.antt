@@ -8,16 +8,13 @@ use Rattle.mixes.proofs.ArithmeticMixes.{arithmetic-full}
 use Rattle.mixes.proofs.arithmetic.arithmetic.Statement.{statement}
 use Rattle.mixes.proofs.arithmetic.arithmetic.Tie as tie
 
-all-ones-requires : tie.Need-all-ones-requires
-all-ones-requires c κs = search needs
-
 work-requires : tie.Need-work-requires
-work-requires c κs = let given = c .before .before .pre in (given .1, byte-lt (given .0) (given .2), byte-lt (given .0) (given .3))
+work-requires c κs = let given = c .before .before .pre in (given .1, byte-lt (given .0 .bits) (given .2), byte-lt (given .0 .bits) (given .3))
 
 returns : tie.Need-returns
 returns c =
-    rw (c .work .ensures, c .before .if1 .taken, c .before .before .all-ones .ensures)
-    (sym (arithmetic-full _ _ (c .before .before .before .pre .2) (c .before .before .before .pre .3)))
+    let given = c .before .before .before .pre in
+    rw (c .work .ensures, c .before .if1 .taken, given .0 .ones) (sym (arithmetic-full _ _ (given .2) (given .3)))
 
 gather-requires : tie.Need-gather-requires
 gather-requires c κs = search needs
@@ -31,7 +28,8 @@ gather-requires-3 c κs = search needs
 work-requires-2 : tie.Need-work-requires-2
 work-requires-2 c κs =
     let given = c .before .before .before .before .before .pre in
-    rw (c .before .gather2 .ensures, c .gather3 .ensures) (given .1, byte-lt (given .0) (gathered-lt _ _ _), byte-lt (given .0) (gathered-lt _ _ _))
+    rw (c .before .gather2 .ensures, c .gather3 .ensures)
+    (given .1, byte-lt (given .0 .bits) (gathered-lt _ _ _), byte-lt (given .0 .bits) (gathered-lt _ _ _))
 
 scatter-requires : tie.Need-scatter-requires
 scatter-requires c κs = search needs
@@ -39,13 +37,13 @@ scatter-requires c κs = search needs
 returns-2 : tie.Need-returns-2
 unfolding arithmetic
 returns-2 c =
-    rw (c .scatter .ensures, c .before .work2 .ensures, c .before .before .gather3 .ensures, c .before .before .before .gather2 .ensures, c .before .before .before .before .gather .ensures)
+    let gathers = c .before .before in
+    rw (c .scatter .ensures, c .before .work2 .ensures, gathers .gather3 .ensures, gathers .before .gather2 .ensures, gathers .before .before .gather .ensures)
 
 pub arithmetic-spec : {M : Type 1} → statement M
 arithmetic-spec =
     tie.close
     (tie.spec
-    all-ones-requires
     work-requires
     returns
     gather-requires

@@ -24,7 +24,15 @@ mode-of-requires c κs = search needs
 
 returns : tie.Need-returns
 unfolding courseOf
-returns c = rw (c .mode-of .ensures, c .before .is-read .ensures, c .before .before .sign-of2 .ensures, c .before .before .before .sign-of .ensures, c .before .before .before .before .octant-of .ensures, c .before .before .before .before .before .function-of .ensures)
+returns c = let sign = c .before .before .before in
+    rw (
+      c .mode-of .ensures,
+      c .before .is-read .ensures,
+      c .before .before .sign-of2 .ensures,
+      sign .sign-of .ensures,
+      sign .before .octant-of .ensures,
+      sign .before .before .function-of .ensures,
+    )
 
 pub course-of-spec : {M : Type 1} → statement M
 course-of-spec =

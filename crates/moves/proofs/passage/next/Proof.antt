@@ -6,14 +6,14 @@ use borrow.Author.Needs.{needs}
 use Rattle.parts.specs.Drawings.{withInside}
 use Rattle.moves.specs.declared.Way.{Way}
 use Rattle.moves.specs.Moves.{penWith, moved}
-use Rattle.moves.specs.Inner.{gone}
+use Rattle.moves.specs.Inner.{wentBy}
 use Rattle.moves.proofs.passage.next.Statement.{statement}
 use Rattle.moves.proofs.passage.next.Tie as tie
 
 -- the pen goes the way that it is known to be
 known : (c : tie.After-way-of) {w : Way} → let a = c .before .args in
-    c .way-of .result ≡ w → gone (a .setup) w (a .pen) ≡ moved (a .setup) (penWith (withInside (a .inside) (a .pen .drawing)) (a .pen))
-known c e = ap (λ w. gone (c .before .args .setup) w (c .before .args .pen)) (sym e) ∙ c .way-of .ensures
+    c .way-of .result ≡ w → wentBy (a .travel) w (a .pen) ≡ moved (a .travel) (penWith (withInside (a .inside) (a .pen .drawing)) (a .pen))
+known c e = ap (λ w. wentBy (c .before .args .travel) w (c .before .args .pen)) (sym e) ∙ c .way-of .ensures
 
 way-of-requires : tie.Need-way-of-requires
 way-of-requires c κs = search needs
@@ -37,15 +37,17 @@ pen-with-requires : tie.Need-pen-with-requires
 pen-with-requires c κs = search needs
 
 returns : tie.Need-returns
-unfolding gone
-returns c = rw (c .step-pen .ensures, toZ-ofZ w32 (c .before .before .way .given .0 .1 .1 .1 .1 .0) (search needs)) (known (c .before .before .before .before) (c .before .before .way .given .1))
+unfolding wentBy
+returns c =
+    rw (c .step-pen .ensures, toZ-ofZ w32 (c .before .before .way .given .0 .1 .1 .1 .1 .0) (search needs))
+    (known (c .before .before .before .before) (c .before .before .way .given .1))
 
 returns-2 : tie.Need-returns-2
-unfolding gone
+unfolding wentBy
 returns-2 c = c .pass-row .ensures ∙ known (c .before .before .before .before) (c .before .before .way2 .given .1)
 
 returns-3 : tie.Need-returns-3
-unfolding gone
+unfolding wentBy
 returns-3 c = c .pen-with .ensures ∙ known (c .before .before .before .before) (c .before .before .way3 .given .1)
 
 pub next-spec : {M : Type 1} → statement M

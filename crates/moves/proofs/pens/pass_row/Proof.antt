@@ -14,21 +14,21 @@ use Rattle.moves.proofs.pens.pass_row.Statement.{statement}
 use Rattle.moves.proofs.pens.pass_row.Tie as tie
 
 -- the destination has 16 bits, and E 32
-across : (c : tie.After-struct-told) → SFits w16 (c .before .before .before .before .before .before .args .pen .destination .x)
-across c = search (needs, c .struct-told .given)
+across : (c : tie.After-struct-told) → SFits w16 (c .before .before .before .before .before .before .args .pen .pointers .destination .x)
+across c = search (needs, c .struct-told .given .0 .1 .1)
 
-down : (c : tie.After-struct-told) → SFits w16 (c .before .before .before .before .before .before .args .pen .destination .y)
-down c = search (needs, c .struct-told .given)
+down : (c : tie.After-struct-told) → SFits w16 (c .before .before .before .before .before .before .args .pen .pointers .destination .y)
+down c = search (needs, c .struct-told .given .0 .1 .1)
 
 error : (c : tie.After-struct-told) → SFits w32 (c .before .before .before .before .before .before .args .pen .e)
 error c = search (needs, c .struct-told .given)
 
 -- used pointers lie in their maps
-source-inside : (c : tie.Start) → c .args .setup .flow .source ≡ true → isInside (c .args .setup .source) (c .args .pen .source) ≡ true
-source-inside c = source-in (c .args .setup) (c .args .pen) (c .pre)
+source-inside : (c : tie.Start) → c .args .travel .source .used ≡ true → isInside (c .args .travel .source .map) (c .args .pen .pointers .source) ≡ true
+source-inside c = source-in (c .args .travel) (c .args .pen) (c .pre)
 
-pattern-inside : (c : tie.Start) → c .args .setup .flow .pattern ≡ true → isInside (c .args .setup .pattern) (c .args .pen .pattern) ≡ true
-pattern-inside c = pattern-in (c .args .setup) (c .args .pen) (c .pre)
+pattern-inside : (c : tie.Start) → c .args .travel .pattern .used ≡ true → isInside (c .args .travel .pattern .map) (c .args .pen .pointers .pattern) ≡ true
+pattern-inside c = pattern-in (c .args .travel) (c .args .pen) (c .pre)
 
 return-used-requires : tie.Need-return-used-requires
 return-used-requires c κs = λ used. inside-x _ _ (source-inside (c .before) used)
@@ -54,14 +54,15 @@ circle-by-requires c κs = search needs
 returns : tie.Need-returns
 unfolding rowPoint rowSpot rowPassed
 returns c = let a = c .before .before .before .before .before .before .before .before .before .before .before .args in
+    let p = a .pen .pointers in
     rw (
       toZ-ofZ w16 (c .before .circle-by .result) (record { sfits = c .before .circle-by .ok }),
       toZ-ofZ w16 (c .before .before .before .before .return-by .result) (record { sfits = c .before .before .before .before .return-by .ok }),
       c .before .circle-by .ensures,
       c .before .before .before .destination-down .ensures,
       c .before .before .before .before .return-by .ensures,
-      toZ-ofZ w16 (a .pen .destination .x) (across (c .before .before .before .before .before)),
-      toZ-ofZ w16 (a .pen .destination .y) (down (c .before .before .before .before .before)),
+      toZ-ofZ w16 (p .destination .x) (across (c .before .before .before .before .before)),
+      toZ-ofZ w16 (p .destination .y) (down (c .before .before .before .before .before)),
       c .before .before .before .before .before .before .turn-used2 .ensures,
       c .before .before .before .before .before .before .before .return-used2 .ensures,
       c .before .before .before .before .before .before .before .before .turn-used .ensures,
@@ -69,9 +70,11 @@ returns c = let a = c .before .before .before .before .before .before .before .b
       toZ-ofZ w32 (a .pen .e) (error (c .before .before .before .before .before)),
     )
     (λ i. record {
-      source = choose-point (a .setup .flow .source) (rowPoint (a .setup) (a .setup .source) (a .pen .source)) (a .pen .source) i;
-      pattern = choose-point (a .setup .flow .pattern) (rowPoint (a .setup) (a .setup .pattern) (a .pen .pattern)) (a .pen .pattern) i;
-      destination = rowSpot (a .setup) (a .pen .destination);
+      pointers = record {
+        source = choose-point (a .travel .source .used) (rowPoint (a .travel) (a .travel .source .map) (p .source)) (p .source) i;
+        pattern = choose-point (a .travel .pattern .used) (rowPoint (a .travel) (a .travel .pattern .map) (p .pattern)) (p .pattern) i;
+        destination = rowSpot (a .travel) (p .destination);
+      };
       e = a .pen .e;
       drawing = a .drawing;
     })

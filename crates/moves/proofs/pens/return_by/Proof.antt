@@ -12,7 +12,13 @@ circle-by-requires : tie.Need-circle-by-requires
 circle-by-requires c κs = search needs
 
 returns : tie.Need-returns
-returns c = rw (toZ-ofZ w16 (c .circle-by .result) (record { sfits = c .circle-by .ok }), c .circle-by .ensures, c .before .opposite .ensures, toZ-ofZ w16 (c .before .before .before .args .x) (c .before .before .before .fits .x))
+returns c = let start = c .before .before .before in
+    rw (
+      toZ-ofZ w16 (c .circle-by .result) (record { sfits = c .circle-by .ok }),
+      c .circle-by .ensures,
+      c .before .opposite .ensures,
+      toZ-ofZ w16 (start .args .x) (start .fits .x),
+    )
 
 pub return-by-spec : {M : Type 1} → statement M
 return-by-spec = tie.close (tie.spec opposite-requires circle-by-requires returns)

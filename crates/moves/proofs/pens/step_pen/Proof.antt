@@ -16,18 +16,18 @@ use Rattle.moves.proofs.pens.step_pen.Statement.{statement}
 use Rattle.moves.proofs.pens.step_pen.Tie as tie
 
 -- the destination has 16 bits
-across : (c : tie.After-struct-told) → SFits w16 (c .before .before .before .before .before .args .pen .destination .x)
-across c = search (needs, c .struct-told .given)
+across : (c : tie.After-struct-told) → SFits w16 (c .before .before .before .before .before .args .pen .pointers .destination .x)
+across c = search (needs, c .struct-told .given .0 .1 .1)
 
-down : (c : tie.After-struct-told) → SFits w16 (c .before .before .before .before .before .args .pen .destination .y)
-down c = search (needs, c .struct-told .given)
+down : (c : tie.After-struct-told) → SFits w16 (c .before .before .before .before .before .args .pen .pointers .destination .y)
+down c = search (needs, c .struct-told .given .0 .1 .1)
 
 -- used pointers lie in their maps
-source-inside : (c : tie.Start) → c .args .setup .flow .source ≡ true → isInside (c .args .setup .source) (c .args .pen .source) ≡ true
-source-inside c = source-in (c .args .setup) (c .args .pen) (c .pre)
+source-inside : (c : tie.Start) → c .args .travel .source .used ≡ true → isInside (c .args .travel .source .map) (c .args .pen .pointers .source) ≡ true
+source-inside c = source-in (c .args .travel) (c .args .pen) (c .pre)
 
-pattern-inside : (c : tie.Start) → c .args .setup .flow .pattern ≡ true → isInside (c .args .setup .pattern) (c .args .pen .pattern) ≡ true
-pattern-inside c = pattern-in (c .args .setup) (c .args .pen) (c .pre)
+pattern-inside : (c : tie.Start) → c .args .travel .pattern .used ≡ true → isInside (c .args .travel .pattern .map) (c .args .pen .pointers .pattern) ≡ true
+pattern-inside c = pattern-in (c .args .travel) (c .args .pen) (c .pre)
 
 turn-used-requires : tie.Need-turn-used-requires
 turn-used-requires c κs = λ used. inside-x _ _ (source-inside c used)
@@ -50,6 +50,7 @@ circle-by-requires-2 c κs = search needs
 returns : tie.Need-returns
 unfolding pointStepped spotStepped penStepped
 returns c = let a = c .before .before .before .before .before .before .before .before .args in
+    let p = a .pen .pointers in
     let from : Step = record { x = a .from-x; y = a .from-y } in
     rw (
       toZ-ofZ w32 (a .e) (c .before .before .before .before .before .before .before .before .fits .e),
@@ -57,17 +58,19 @@ returns c = let a = c .before .before .before .before .before .before .before .b
       toZ-ofZ w16 (c .before .before .circle-by .result) (record { sfits = c .before .before .circle-by .ok }),
       c .circle-by2 .ensures,
       c .before .before .circle-by .ensures,
-      toZ-ofZ w16 (a .pen .destination .x) (across (c .before .before .before)),
-      toZ-ofZ w16 (a .pen .destination .y) (down (c .before .before .before)),
+      toZ-ofZ w16 (p .destination .x) (across (c .before .before .before)),
+      toZ-ofZ w16 (p .destination .y) (down (c .before .before .before)),
       c .before .before .before .before .turn-used4 .ensures,
       c .before .before .before .before .before .turn-used3 .ensures,
       c .before .before .before .before .before .before .turn-used2 .ensures,
       c .before .before .before .before .before .before .before .turn-used .ensures,
     )
     (λ i. record {
-      source = choose-point (a .setup .flow .source) (pointStepped (a .setup .source) from (a .pen .source)) (a .pen .source) i;
-      pattern = choose-point (a .setup .flow .pattern) (pointStepped (a .setup .pattern) from (a .pen .pattern)) (a .pen .pattern) i;
-      destination = spotStepped (record { x = a .to-x; y = a .to-y }) (a .pen .destination);
+      pointers = record {
+        source = choose-point (a .travel .source .used) (pointStepped (a .travel .source .map) from (p .source)) (p .source) i;
+        pattern = choose-point (a .travel .pattern .used) (pointStepped (a .travel .pattern .map) from (p .pattern)) (p .pattern) i;
+        destination = spotStepped (record { x = a .to-x; y = a .to-y }) (p .destination);
+      };
       e = a .e;
       drawing = a .drawing;
     })

@@ -27,11 +27,23 @@ returns c = rw (toZ-ofZ w16 (c .before .before .args .z) (c .before .before .fit
 
 returns-2 : tie.Need-returns-2
 unfolding circledBy
-returns-2 c = rw (c .before .enum-told2 .given .1, toZ-ofZ w16 (c .destination-forth .result) (record { sfits = c .destination-forth .ok }), c .destination-forth .ensures, toZ-ofZ w16 (c .before .before .before .args .z) (c .before .before .before .fits .z))
+returns-2 c = let start = c .before .before .before in
+    rw (
+      c .before .enum-told2 .given .1,
+      toZ-ofZ w16 (c .destination-forth .result) (record { sfits = c .destination-forth .ok }),
+      c .destination-forth .ensures,
+      toZ-ofZ w16 (start .args .z) (start .fits .z),
+    )
 
 returns-3 : tie.Need-returns-3
 unfolding circledBy
-returns-3 c = rw (c .before .enum-told3 .given .1, toZ-ofZ w16 (c .destination-back .result) (record { sfits = c .destination-back .ok }), c .destination-back .ensures, toZ-ofZ w16 (c .before .before .before .args .z) (c .before .before .before .fits .z))
+returns-3 c = let start = c .before .before .before in
+    rw (
+      c .before .enum-told3 .given .1,
+      toZ-ofZ w16 (c .destination-back .result) (record { sfits = c .destination-back .ok }),
+      c .destination-back .ensures,
+      toZ-ofZ w16 (start .args .z) (start .fits .z),
+    )
 
 pub circle-by-spec : {M : Type 1} → statement M
 circle-by-spec =

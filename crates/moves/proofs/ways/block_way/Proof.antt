@@ -4,7 +4,7 @@ use mir.Syntax.{w32}
 use mir.ValLaws.{toZ-ofZ}
 use borrow.Author.Tests.{lt-ltb, le-ltb}
 use Rattle.moves.specs.Moves.{columnPassed, blockMoved}
-use Rattle.moves.specs.Inner.{gone}
+use Rattle.moves.specs.Inner.{wentBy}
 use borrow.Author.Needs.{needs}
 use Rattle.moves.proofs.ways.block_way.Statement.{statement}
 use Rattle.moves.proofs.ways.block_way.Tie as tie
@@ -16,11 +16,11 @@ row-after-requires : tie.Need-row-after-requires
 row-after-requires c κs = search needs
 
 returns : tie.Need-returns
-unfolding gone columnPassed blockMoved
+unfolding wentBy columnPassed blockMoved
 returns c = rw (lt-ltb _ _ (c .before .if1 .taken), toZ-ofZ w32 (c .before .before .before .before .args .pen .e) (search needs))
 
 returns-2 : tie.Need-returns-2
-unfolding gone blockMoved
+unfolding wentBy blockMoved
 returns-2 c = rw (le-ltb _ _ (c .before .if1 .left), c .row-after .ensures)
 
 pub block-way-spec : {M : Type 1} → statement M

@@ -4,7 +4,7 @@ use mir.ValLaws.{toZ-ofZ}
 use borrow.Author.Tests.{lt-ltb, le-ltb}
 use borrow.Author.Needs.{needs}
 use Rattle.moves.specs.Moves.{penGone, codesMoved}
-use Rattle.moves.specs.Inner.{gone}
+use Rattle.moves.specs.Inner.{wentBy}
 use Rattle.moves.proofs.ways.code_way.Statement.{statement}
 use Rattle.moves.proofs.ways.code_way.Tie as tie
 
@@ -27,11 +27,18 @@ pass-code-requires : tie.Need-pass-code-requires
 pass-code-requires c κs = search needs
 
 returns : tie.Need-returns
-unfolding gone penGone codesMoved
-returns c = rw (← c .before .before .before .before .code-at .ensures, lt-ltb _ _ (c .before .before .before .if1 .taken), c .way-along .ensures, c .before .before .code-step .ensures, toZ-ofZ w32 (c .before .before .before .before .before .before .args .pen .e) (search needs))
+unfolding wentBy penGone codesMoved
+returns c = let test = c .before .before .before in
+    rw (
+      ← test .before .code-at .ensures,
+      lt-ltb _ _ (test .if1 .taken),
+      c .way-along .ensures,
+      c .before .before .code-step .ensures,
+      toZ-ofZ w32 (test .before .before .before .args .pen .e) (search needs),
+    )
 
 returns-2 : tie.Need-returns-2
-unfolding gone codesMoved
+unfolding wentBy codesMoved
 returns-2 c = rw (← c .before .before .code-at .ensures, le-ltb _ _ (c .before .if1 .left), c .pass-code .ensures)
 
 pub code-way-spec : {M : Type 1} → statement M

@@ -4,7 +4,7 @@ use mir.Syntax.{w32}
 use mir.ValLaws.{toZ-ofZ}
 use borrow.Author.Tests.{lt-ltb, le-ltb}
 use Rattle.moves.specs.Moves.{penGone, lineMoved}
-use Rattle.moves.specs.Inner.{gone}
+use Rattle.moves.specs.Inner.{wentBy}
 use borrow.Author.Needs.{needs}
 use Rattle.moves.proofs.ways.line_way.Statement.{statement}
 use Rattle.moves.proofs.ways.line_way.Tie as tie
@@ -25,7 +25,7 @@ way-along-requires : tie.Need-way-along-requires
 way-along-requires c κs = search needs
 
 returns : tie.Need-returns
-unfolding gone penGone lineMoved
+unfolding wentBy penGone lineMoved
 returns c =
     let error = c .before .before .before in
     let e = toZ-ofZ w32 (c .before .before .before .before .before .before .before .before .before .before .args .pen .e) (search needs) in
@@ -40,7 +40,7 @@ returns c =
     )
 
 returns-2 : tie.Need-returns-2
-unfolding gone lineMoved
+unfolding wentBy lineMoved
 returns-2 c = rw (le-ltb _ _ (c .if1 .left))
 
 pub line-way-spec : {M : Type 1} → statement M

@@ -3,17 +3,18 @@ use mathlib.Core.Path.{_≡_, _∙_, sym, ap}
 use Rattle.parts.specs.declared.drawing.Drawing.{Drawing}
 use Rattle.parts.specs.Drawings.{withInside}
 use Rattle.moves.specs.Moves.{penStepped, penWith, penGone, lineMoved, codesMoved, columnPassed, rowPassed, blockMoved, movedBy, moved}
-use Rattle.moves.specs.Inner.{gone}
+use Rattle.moves.specs.Inner.{wentBy}
 use borrow.Author.Needs.{needs}
 use Rattle.moves.proofs.ways.way_of.Statement.{statement}
 use Rattle.moves.proofs.ways.way_of.Tie as tie
 
 -- the pen moves by what its drawing is known to be, with the bit as it is now
 known : (c : tie.Start) {d : Drawing} → let a = c .args in a .pen .drawing ≡ d
-    → movedBy (a .setup) (withInside (a .inside) d) (penWith (withInside (a .inside) d) (a .pen)) ≡ moved (a .setup) (penWith (withInside (a .inside) (a .pen .drawing)) (a .pen))
+    → movedBy (a .travel) (withInside (a .inside) d) (penWith (withInside (a .inside) d) (a .pen))
+    ≡ moved (a .travel) (penWith (withInside (a .inside) (a .pen .drawing)) (a .pen))
 unfolding moved penWith
 known c e = let a = c .args in
-    ap (λ (d : Drawing). movedBy (a .setup) (withInside (a .inside) d) (penWith (withInside (a .inside) d) (a .pen))) (sym e)
+    ap (λ (d : Drawing). movedBy (a .travel) (withInside (a .inside) d) (penWith (withInside (a .inside) d) (a .pen))) (sym e)
 
 enum-told : tie.Need-enum-told
 enum-told c = search needs
@@ -37,7 +38,7 @@ block-way-requires : tie.Need-block-way-requires
 block-way-requires c κs = search needs
 
 returns : tie.Need-returns
-unfolding gone movedBy withInside
+unfolding wentBy movedBy withInside
 returns c =
     let e = c .enum-told .given .1 in
     ap (λ (d : Drawing). penWith d (c .before .before .args .pen)) e ∙ known (c .before .before) e

@@ -16,11 +16,11 @@ returns c = λ e count i same. sym (first-null _ _ _ _ (c .match .keys1))
 
 returns-2 : tie.Need-returns-2
 unfolding nulledBy isLast
-returns-2 c = λ e count i same. rw same (sym (last-null _ _ _ _ (c .match .keys2)))
+returns-2 c = λ e count i same. rw (← same) (sym (last-null _ _ _ _ (c .match .keys2)))
 
 returns-3 : tie.Need-returns-3
 unfolding nulledBy isFirst isLast onBoundary
-returns-3 c = λ e count i same. rw same (ap not (c .code-bounds .ensures) ∙ sym (boundary-null _ _ _ _ (c .before .match .keys3)))
+returns-3 c = λ e count i same. rw (← same) (ap not (c .code-bounds .ensures) ∙ sym (boundary-null _ _ _ _ (c .before .match .keys3)))
 
 returns-4 : tie.Need-returns-4
 unfolding nulledBy

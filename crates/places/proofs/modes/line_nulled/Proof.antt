@@ -26,7 +26,7 @@ returns-3 : tie.Need-returns-3
 unfolding nulledBy
 returns-3 c =
     let a = c .before .before .args in
-    ap not (c .line-bounds .ensures ∙ ap (λ (z : ℤ). onBoundary (a .setup) z (Line (a .rose) (a .done))) (toZ-ofZ w32 (a .e) (search needs)))
+    ap not (c .line-bounds .ensures ∙ ap (λ (z : ℤ). onBoundary (a .setup .travel) z (Line (a .rose) (a .done))) (toZ-ofZ w32 (a .e) (search needs)))
     ∙ sym (boundary-null _ _ _ _ (c .before .match .keys3))
 
 returns-4 : tie.Need-returns-4

@@ -36,7 +36,7 @@ returns-2 c =
       c .before .before .before .is-within .ensures,
       ne-eqb _ _ (c .before .before .before .before .before .if1 .left),
     )
-    (rw (across, toZ-ofZ w16 (a .pen .destination .y) (search (needs, c .before .before .struct-told .given))))
+    (rw (across, toZ-ofZ w16 (a .pen .pointers .destination .y) (search (needs, c .before .before .struct-told .given .0 .1 .1))))
 
 pub in-mask-spec : {M : Type 1} → statement M
 in-mask-spec =

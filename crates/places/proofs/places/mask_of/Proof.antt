@@ -23,7 +23,7 @@ returns c =
     let place = c .before .before .before in
     let across = toZ-ofZ w16 (place .place-x .result) (record { sfits = place .place-x .ok }) ∙ place .place-x .ensures in (
       rw (c .before .before .column-of .ensures, across),
-      rw (c .column-of2 .ensures, toZ-ofZ w16 (a .pen .destination .y) (search (needs, c .before .struct-told .given))),
+      rw (c .column-of2 .ensures, toZ-ofZ w16 (a .pen .pointers .destination .y) (search (needs, c .before .struct-told .given .0 .1 .1))),
     )
 
 pub mask-of-spec : {M : Type 1} → statement M

@@ -29,9 +29,9 @@ returns c =
     rw (c .both .ensures, c .before .is-within2 .ensures, c .before .before .before .is-within .ensures)
     (rw (
       across,
-      toZ-ofZ w16 (a .pen .destination .y) (search (needs, c .before .before .struct-told .given)),
-      +ℤ-idr (placeX (a .setup) (a .pen)),
-      +ℤ-idr (a .pen .destination .y),
+      toZ-ofZ w16 (a .pen .pointers .destination .y) (search (needs, c .before .before .struct-told .given .0 .1 .1)),
+      +ℤ-idr (placeX (a .brush) (a .pen)),
+      +ℤ-idr (a .pen .pointers .destination .y),
     ))
 
 pub on-map-spec : {M : Type 1} → statement M

@@ -12,16 +12,16 @@ returns : tie.Need-returns
 unfolding placeX
 returns c =
     let a = c .before .before .before .before .before .before .args in
-    let x = toZ-ofZ w16 (a .pen .destination .x) (search (needs, c .before .before .before .before .struct-told .given)) in
-    let edge = toZ-ofZ w16 (a .setup .edge) (search (needs, c .before .before .struct-told2 .given .1 .1 .1 .1 .1 .1 .1 .1 .1 .1 .1 .1 .1)) in
+    let x = toZ-ofZ w16 (a .pen .pointers .destination .x) (search (needs, c .before .before .before .before .struct-told .given .0 .1 .1)) in
+    let edge = toZ-ofZ w16 (a .brush .edge) (search (needs, c .before .before .struct-told2 .given .1 .1)) in
     edge ∙ sym (choose-true _ _ (rw (x, edge) at (c .before .if1 .taken)))
 
 returns-2 : tie.Need-returns-2
 unfolding placeX
 returns-2 c =
     let a = c .before .before .before .before .before .before .args in
-    let x = toZ-ofZ w16 (a .pen .destination .x) (search (needs, c .before .before .before .before .struct-told .given)) in
-    let edge = toZ-ofZ w16 (a .setup .edge) (search (needs, c .before .before .struct-told2 .given .1 .1 .1 .1 .1 .1 .1 .1 .1 .1 .1 .1 .1)) in
+    let x = toZ-ofZ w16 (a .pen .pointers .destination .x) (search (needs, c .before .before .before .before .struct-told .given .0 .1 .1)) in
+    let edge = toZ-ofZ w16 (a .brush .edge) (search (needs, c .before .before .struct-told2 .given .1 .1)) in
     x ∙ sym (choose-false _ _ (rw (x, edge) at (c .before .if1 .left)))
 
 pub place-x-spec : {M : Type 1} → statement M

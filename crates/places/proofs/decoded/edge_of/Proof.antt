@@ -1,10 +1,10 @@
 -- `edge_of` is the choice by the drawing mode.
 use mathlib.Core.Path.{sym, _∙_}
 use borrow.Author.Tests.{eq-eqb, ne-eqb}
-use Rattle.moves.specs.Decoded.{edgeOf}
+use Rattle.places.specs.Decoded.{edgeOf}
 use borrow.Author.Needs.{needs}
-use Rattle.moves.proofs.decoded.edge_of.Statement.{statement}
-use Rattle.moves.proofs.decoded.edge_of.Tie as tie
+use Rattle.places.proofs.decoded.edge_of.Statement.{statement}
+use Rattle.places.proofs.decoded.edge_of.Tie as tie
 
 mode-of-requires : tie.Need-mode-of-requires
 mode-of-requires c κs = search needs

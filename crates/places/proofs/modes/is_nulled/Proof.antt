@@ -1,0 +1,62 @@
+-- `is_nulled` is the definition at each kind of drawing, of the code that is drawn.
+use mathlib.Core.Path.{sym}
+use lib.Dec.{eqb}
+use mir.Syntax.{w32}
+use mir.ValLaws.{toZ-ofZ}
+use Rattle.places.specs.Places.{isFirst, isLast, onBoundary, nulledBy}
+use Rattle.places.specs.Inner.{codeIn}
+use Rattle.places.proofs.ModeLaws.{none-left}
+use borrow.Author.Needs.{needs}
+use Rattle.places.proofs.modes.is_nulled.Statement.{statement}
+use Rattle.places.proofs.modes.is_nulled.Tie as tie
+
+enum-told : tie.Need-enum-told
+enum-told c = search needs
+
+enum-known-drawing : tie.Need-enum-known-drawing
+enum-known-drawing c = search needs
+
+line-nulled-requires : tie.Need-line-nulled-requires
+line-nulled-requires c κs = search needs
+
+enum-known-drawing-2 : tie.Need-enum-known-drawing-2
+enum-known-drawing-2 c = search needs
+
+code-nulled-requires : tie.Need-code-nulled-requires
+code-nulled-requires c κs = search needs
+
+enum-told-2 : tie.Need-enum-told-2
+enum-told-2 c = search needs
+
+returns : tie.Need-returns
+unfolding isFirst isLast onBoundary nulledBy
+returns c = let mode = c .before .before .args .setup .brush .flow .mode in
+    rw (c .enum-told .given .1) (sym (none-left (eqb mode 1) (eqb mode 2) (eqb mode 3)))
+
+returns-2 : tie.Need-returns-2
+returns-2 c = rw (c .before .before .drawing .given .1, c .line-nulled .ensures, toZ-ofZ w32 (c .before .before .before .before .args .e) (c .before .before .before .before .fits .e))
+
+returns-3 : tie.Need-returns-3
+unfolding codeIn
+returns-3 c = let known = c .before .before .drawing2 .given .1 in
+    rw known (c .code-nulled .ensures _ _ _ (rw known at (c .before .before .before .before .pre)))
+
+returns-4 : tie.Need-returns-4
+unfolding isFirst isLast onBoundary nulledBy
+returns-4 c = let mode = c .before .before .args .setup .brush .flow .mode in
+    rw (c .enum-told2 .given .1) (sym (none-left (eqb mode 1) (eqb mode 2) (eqb mode 3)))
+
+pub is-nulled-spec : {M : Type 1} → statement M
+is-nulled-spec =
+    tie.close
+    (tie.spec
+    enum-told
+    enum-known-drawing
+    line-nulled-requires
+    enum-known-drawing-2
+    code-nulled-requires
+    enum-told-2
+    returns
+    returns-2
+    returns-3
+    returns-4)
