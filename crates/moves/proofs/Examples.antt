@@ -11,7 +11,7 @@ use Rattle.parts.specs.declared.shapes.Spot.{Spot}
 use Rattle.parts.specs.declared.drawing.Drawing.{Drawing}
 use Rattle.parts.specs.declared.drawing.Drawing.the-variants.{Nothing, Line, Codes, Block}
 use Rattle.rules.specs.Operations.{isFill, isBlock, modeOf, isMap, sourceIsColour, usesSource, usesPattern}
-use Rattle.rules.specs.Starts.{codeAt}
+use Rattle.rules.specs.Codes.{codeAt}
 use Rattle.moves.specs.declared.Travel.{Travel}
 use Rattle.moves.specs.declared.Pen.{Pen}
 use Rattle.moves.specs.Turns.{opposite, turnedBy, circledBy, pointStepped, spotStepped}
@@ -32,8 +32,7 @@ travel operations dimensions steps k1 k2 =
       course = courseOf operations;
       source = record { used = usesSource operations; map = eight };
       pattern = record { used = usesPattern operations; map = eight };
-      dimensions = dimensions;
-      steps = steps;
+      figure = record { operations = operations; steps = steps; dimensions = dimensions; origin = record { x = 0; y = 0 } };
       terms = record { e = pos 0; k1 = k1; k2 = k2 };
     }
 

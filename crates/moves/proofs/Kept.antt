@@ -17,7 +17,7 @@ use Rattle.parts.specs.declared.shapes.Spot.{Spot}
 use Rattle.parts.specs.declared.drawing.Drawing.{Drawing}
 use Rattle.parts.specs.declared.drawing.Drawing.the-variants.{Nothing, Line, Codes, Block}
 use Rattle.rules.specs.Maps.{isInside}
-use Rattle.rules.specs.Starts.{codeAt}
+use Rattle.rules.specs.Codes.{codeAt}
 use Rattle.rules.proofs.PointerLaws.{inside-x, inside-y}
 use Rattle.moves.specs.declared.Turn.{Turn}
 use Rattle.moves.specs.declared.Step.{Step}
@@ -42,10 +42,10 @@ module _ (s : Travel) (P : Pen → Type 0)
     where
       by : (d : Drawing) → P (movedBy s d pen)
       by (Nothing stopped) = h
-      by (Line rose done) = by-lt P done (s .dimensions .x) (λ less. step _ _ _ _ pen (inr refl) h) (λ more. pass _ pen h)
+      by (Line rose done) = by-lt P done (s .figure .dimensions .x) (λ less. step _ _ _ _ pen (inr refl) h) (λ more. pass _ pen h)
       by (Codes count code done) =
-          by-lt P done (codeAt (s .steps) count code % 16) (λ less. step _ _ _ _ pen (inl refl) h) (λ more. pass _ pen h)
-      by (Block inside column across) = by-lt P column (s .dimensions .x) (λ less. step _ _ _ _ pen (inl refl) h) (λ more. row _ pen h)
+          by-lt P done (codeAt (s .figure .steps) count code % 16) (λ less. step _ _ _ _ pen (inl refl) h) (λ more. pass _ pen h)
+      by (Block inside column across) = by-lt P column (s .figure .dimensions .x) (λ less. step _ _ _ _ pen (inl refl) h) (λ more. row _ pen h)
 
 -- ---- pointers inside their maps
 

@@ -5,7 +5,7 @@ use mathlib.Core.List.{List}
 use lib.Dec.{eqb}
 use Rattle.numbers.specs.Choose.{choose}
 use Rattle.pixels.specs.declared.Map.{Map}
-use Rattle.parts.specs.declared.shapes.Point.{Point}
+use Rattle.parts.specs.declared.shapes.Figure.{Figure}
 use Rattle.parts.specs.declared.shapes.Terms.{Terms}
 use Rattle.rules.specs.Operations.{functionOf, sourceField, patternField, modeOf, octantOf, usesSource, usesPattern}
 use Rattle.rules.specs.Maps.{mapAt}
@@ -32,13 +32,12 @@ courseOf operations =
     }
 
 -- 01, Registers, 7C: what the moves need: the fields choose the maps of the source and pattern pointers
-unfoldable pub travelOf : ℕ → List Map → Point → ℕ → Terms → Travel
-travelOf operations maps dimensions steps terms =
+unfoldable pub travelOf : Figure → List Map → Terms → Travel
+travelOf f maps terms =
     record {
-      course = courseOf operations;
-      source = record { used = usesSource operations; map = mapAt maps (sourceField operations) };
-      pattern = record { used = usesPattern operations; map = mapAt maps (patternField operations) };
-      dimensions = dimensions;
-      steps = steps;
+      course = courseOf (f .operations);
+      source = record { used = usesSource (f .operations); map = mapAt maps (sourceField (f .operations)) };
+      pattern = record { used = usesPattern (f .operations); map = mapAt maps (patternField (f .operations)) };
+      figure = f;
       terms = terms;
     }

@@ -1,7 +1,7 @@
 -- The move to the next position, the end of a row, and the passage to the next code or to a stop.
-use Prim.Native.Nat.{ℕ, _+_, _%_}
+use Prim.Native.Nat.{ℕ, _+_}
 use mathlib.Core.Bool.{Bool, true, false, _&&_}
-use lib.Dec.{ltb, eqb}
+use lib.Dec.{ltb}
 use lib.IntN.{ℤ, pos, _+ℤ_}
 use lib.Signed.{ltZ}
 use Rattle.numbers.specs.Choose.{choose}
@@ -11,7 +11,7 @@ use Rattle.parts.specs.declared.shapes.Point.{Point}
 use Rattle.parts.specs.declared.shapes.Spot.{Spot}
 use Rattle.parts.specs.declared.drawing.Drawing.{Drawing}
 use Rattle.parts.specs.declared.drawing.Drawing.the-variants.{Nothing, Line, Codes, Block}
-use Rattle.rules.specs.Starts.{codeAt}
+use Rattle.rules.specs.Codes.{stepsOf, stops, codeAt}
 use Rattle.moves.specs.declared.Turn.the-variants.{Stay, Forth}
 use Rattle.moves.specs.declared.Step.{Step}
 use Rattle.moves.specs.declared.Course.{Course}
@@ -64,23 +64,23 @@ rises s e = s .course .bounds && goesUp (lineStep (s .course) e .y)
 -- 01, The functions, Line: no step follows the last position
 unfoldable pub lineMoved : Travel → ℕ → Pen → Pen
 lineMoved s done pen =
-    choose (ltb done (s .dimensions .x))
+    choose (ltb done (s .figure .dimensions .x))
     (penGone s (lineStep (s .course) (pen .e)) (lineError s (pen .e)) (Line (rises s (pen .e)) (done + 1)) pen)
     (penWith (Nothing false) pen)
 
 -- 01, The functions, Codes: after a code's last position comes the next code, a stop at 00, or the end of the write's codes
-unfoldable pub codePassed : ℕ → ℕ → ℕ → Drawing
+unfoldable pub codePassed : (steps count code : ℕ) → Drawing
 codePassed steps count code =
     choose (ltb (code + 1) count)
-    (choose (eqb (codeAt steps count (code + 1)) 0) (Nothing true) (Codes count (code + 1) 0))
+    (choose (stops (codeAt steps count (code + 1))) (Nothing true) (Codes count (code + 1) 0))
     (Nothing false)
 
 -- 01, The functions, Codes: n moves in the code's direction; no pointer moves between two codes
-unfoldable pub codesMoved : Travel → ℕ → ℕ → ℕ → Pen → Pen
+unfoldable pub codesMoved : Travel → (count code done : ℕ) → Pen → Pen
 codesMoved s count code done pen =
-    choose (ltb done (codeAt (s .steps) count code % 16))
-    (penGone s (codeStep (codeAt (s .steps) count code)) (pen .e) (Codes count code (done + 1)) pen)
-    (penWith (codePassed (s .steps) count code) pen)
+    choose (ltb done (stepsOf (codeAt (s .figure .steps) count code)))
+    (penGone s (codeStep (codeAt (s .figure .steps) count code)) (pen .e) (Codes count code (done + 1)) pen)
+    (penWith (codePassed (s .figure .steps) count code) pen)
 
 -- 01, The functions, PxBlt: within a row X steps by the octant's sign, of all three pointers
 unfoldable pub columnPassed : Travel → Drawing → Pen → Pen
@@ -91,7 +91,7 @@ columnPassed s drawing pen =
 unfoldable pub rowPoint : Travel → Map → Point → Point
 rowPoint s map p =
     record {
-      x = turnedBy (opposite (s .course .x)) (s .dimensions .x) (map .width) (p .x);
+      x = turnedBy (opposite (s .course .x)) (s .figure .dimensions .x) (map .width) (p .x);
       y = turnedBy (s .course .y) 1 (map .height) (p .y);
     }
 
@@ -99,7 +99,7 @@ rowPoint s map p =
 unfoldable pub rowSpot : Travel → Spot → Spot
 rowSpot s p =
     record {
-      x = circledBy (opposite (s .course .x)) (s .dimensions .x) (p .x);
+      x = circledBy (opposite (s .course .x)) (s .figure .dimensions .x) (p .x);
       y = circledBy (choose (s .course .inverts) (opposite (s .course .y)) (s .course .y)) 1 (p .y);
     }
 
@@ -118,10 +118,10 @@ rowPassed s drawing pen =
 
 -- 01, The functions, PxBlt: positions by rows; at each row's end X returns and Y steps, after the last too;
 -- 02, 102: each row of a fill starts outside
-unfoldable pub blockMoved : Travel → ℕ → ℕ → Bool → Pen → Pen
+unfoldable pub blockMoved : Travel → (column row : ℕ) → Bool → Pen → Pen
 blockMoved s column row inside pen =
-    choose (ltb column (s .dimensions .x)) (columnPassed s (Block inside (column + 1) row) pen)
-    (rowPassed s (choose (ltb row (s .dimensions .y)) (Block false 0 (row + 1)) (Nothing false)) pen)
+    choose (ltb column (s .figure .dimensions .x)) (columnPassed s (Block inside (column + 1) row) pen)
+    (rowPassed s (choose (ltb row (s .figure .dimensions .y)) (Block false 0 (row + 1)) (Nothing false)) pen)
 
 -- 01, The functions: the pen after this position
 unfoldable pub movedBy : Travel → Drawing → Pen → Pen

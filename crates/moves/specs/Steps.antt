@@ -1,11 +1,12 @@
 -- Which way a position steps: lines by their octant and E, codes by their direction.
-use Prim.Native.Nat.{ℕ, _/_, _^_}
+use Prim.Native.Nat.{ℕ}
 use mathlib.Core.Bool.{Bool, true, false}
 use mathlib.Core.List.{[], _∷_}
 use lib.IntN.{ℤ, pos}
 use lib.Signed.{ltZ}
 use lib.ListN.{getD}
 use Rattle.numbers.specs.Choose.{choose}
+use Rattle.rules.specs.Codes.{directionOf}
 use Rattle.moves.specs.declared.Turn.{Turn}
 use Rattle.moves.specs.declared.Turn.the-variants.{Stay, Forth, Back}
 use Rattle.moves.specs.declared.Step.{Step}
@@ -31,7 +32,7 @@ codeStep code =
     ∷ record { x = Stay; y = Forth }
     ∷ record { x = Forth; y = Forth }
     ∷ [])
-    (code / 2 ^ 5)
+    (directionOf code)
     (record { x = Stay; y = Stay })
 
 -- 01, The functions: whether a step's part in Y moves it

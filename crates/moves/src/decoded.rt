@@ -6,7 +6,7 @@ use crate::Course;
 use crate::Ground;
 use crate::Travel;
 use crate::Turn;
-use parts::shapes::Point;
+use parts::shapes::Figure;
 use parts::shapes::Terms;
 use pixels::Map;
 use rules::maps::map_at;
@@ -29,7 +29,7 @@ fn sign_of(bit: u32) -> Turn
 fn is_read(function: u32) -> bool
     ensures { λ r. ⌜ r ≡ eqb function 2 || eqb function 3 ⌝ }
 {
-    if function == 2 { true } else { function == 3 }
+    (function == 2) | (function == 3)
 }
 
 // Which way a drawing goes.
@@ -49,15 +49,10 @@ fn course_of(operations: u32) -> Course
 }
 
 // What the moves of a drawing need.
-pub fn travel_of(
-    operations: u32,
-    maps: [Map; 4],
-    dimensions: Point,
-    steps: u32,
-    terms: Terms,
-) -> Travel
-    ensures { λ r. ⌜ r ≡ travelOf operations maps dimensions steps terms ⌝ }
+pub fn travel_of(figure: Figure, maps: [Map; 4], terms: Terms) -> Travel
+    ensures { λ r. ⌜ r ≡ travelOf figure maps terms ⌝ }
 {
+    let operations = figure.operations;
     let course = course_of(operations);
     let source = Ground {
         used: uses_source(operations),
@@ -71,8 +66,7 @@ pub fn travel_of(
         course,
         source,
         pattern,
-        dimensions,
-        steps,
+        figure,
         terms,
     }
 }

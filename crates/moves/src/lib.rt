@@ -1,6 +1,6 @@
 // The move to the next position: pointers, E and counters. It never reads memory.
 use parts::drawing::Drawing;
-use parts::shapes::Point;
+use parts::shapes::Figure;
 use parts::shapes::Pointers;
 use parts::shapes::Terms;
 use pixels::Map;
@@ -61,14 +61,13 @@ pub struct Ground {
     pub map: Map,
 }
 
-// What the moves need, which a drawing does not change: which way it goes, the maps of the source and pattern pointers, its
-// dimensions, its step codes, and K1 and K2 of the terms; E is the pen's.
+// What the moves need, which a drawing does not change: which way it goes, the maps of the source and pattern pointers, the
+// figure, and K1 and K2 of the terms; E is the pen's.
 pub struct Travel {
     pub course: Course,
     pub source: Ground,
     pub pattern: Ground,
-    pub dimensions: Point,
-    pub steps: u32,
+    pub figure: Figure,
     pub terms: Terms,
 }
 

@@ -118,12 +118,12 @@ pub(crate) fn pen_with(drawing: Drawing, pen: Pen) -> Pen
 fn return_used(used: bool, travel: Travel, last: u16, x: u16) -> u16
     requires { ⌜ (used ≡ true → x ≤ last) ⌝ }
     ensures { λ r.
-        ⌜ r ≡ choose used (turned.turnedBy (turned.opposite (travel .course .x)) (travel .dimensions .x) last x) x ⌝ }
+        ⌜ r ≡ choose used (turned.turnedBy (turned.opposite (travel .course .x)) (travel .figure .dimensions .x) last x) x ⌝ }
 {
     let course = travel.course;
     let across = course.x;
     if used {
-        turn_by(opposite(across), travel.dimensions.x, last, x)
+        turn_by(opposite(across), travel.figure.dimensions.x, last, x)
     } else {
         x
     }
@@ -139,11 +139,11 @@ fn destination_down(course: Course) -> Turn
 
 // The destination's X after a row.
 fn return_by(travel: Travel, x: i16) -> i16
-    ensures { λ r. ⌜ r ≡ turned.circledBy (turned.opposite (travel .course .x)) (travel .dimensions .x) x ⌝ }
+    ensures { λ r. ⌜ r ≡ turned.circledBy (turned.opposite (travel .course .x)) (travel .figure .dimensions .x) x ⌝ }
 {
     let course = travel.course;
     let across = course.x;
-    circle_by(opposite(across), travel.dimensions.x, x)
+    circle_by(opposite(across), travel.figure.dimensions.x, x)
 }
 
 // The pen after a row.

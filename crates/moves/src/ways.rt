@@ -17,7 +17,7 @@ use crate::steps::goes_up;
 use crate::steps::line_step;
 use numbers::circles::term_sum;
 use parts::drawing::Drawing;
-use rules::starts::code_at;
+use rules::codes::code_at;
 
 // The first turn in a read form, and otherwise the second.
 fn turn_in(read: bool, first: Turn, second: Turn) -> Turn
@@ -71,7 +71,7 @@ fn line_way(travel: Travel, done: u16, pen: Pen) -> Way
     ensures { λ r. ⌜ wentBy travel r pen ≡ defined.lineMoved travel done pen ⌝ }
 {
     let course = travel.course;
-    if done < travel.dimensions.x {
+    if done < travel.figure.dimensions.x {
         way_along(
             course,
             line_step(course, pen.e),
@@ -113,7 +113,7 @@ fn code_way(travel: Travel, count: u8, code: u16, done: u16, pen: Pen) -> Way
     ensures { λ r. ⌜ wentBy travel r pen ≡ defined.codesMoved travel count code done pen ⌝ }
 {
     let course = travel.course;
-    let current = code_at(travel.steps, count, code);
+    let current = code_at(travel.figure.steps, count, code);
     if done < (current % 16) as u16 {
         way_along(
             course,
@@ -127,7 +127,7 @@ fn code_way(travel: Travel, count: u8, code: u16, done: u16, pen: Pen) -> Way
         )
     } else {
         Way::Here {
-            drawing: pass_code(travel.steps, count, code),
+            drawing: pass_code(travel.figure.steps, count, code),
         }
     }
 }
@@ -153,7 +153,7 @@ fn block_way(travel: Travel, column: u16, row: u16, inside: bool, pen: Pen) -> W
 {
     let course = travel.course;
     let x = course.x;
-    if column < travel.dimensions.x {
+    if column < travel.figure.dimensions.x {
         Way::Along {
             from_x: x,
             from_y: Turn::Stay,
@@ -168,7 +168,7 @@ fn block_way(travel: Travel, column: u16, row: u16, inside: bool, pen: Pen) -> W
         }
     } else {
         Way::Row {
-            drawing: row_after(row, travel.dimensions.y),
+            drawing: row_after(row, travel.figure.dimensions.y),
         }
     }
 }

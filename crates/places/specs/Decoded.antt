@@ -7,9 +7,8 @@ use Rattle.numbers.specs.Choose.{choose}
 use Rattle.pixels.specs.declared.Map.{Map}
 use Rattle.pixels.specs.Maps.{bitsOf}
 use Rattle.mixes.specs.Mixes.{depthOf}
-use Rattle.parts.specs.declared.shapes.Compare.{Compare}
-use Rattle.parts.specs.declared.shapes.Ink.{Ink}
-use Rattle.parts.specs.declared.shapes.Point.{Point}
+use Rattle.parts.specs.declared.shapes.Colours.{Colours}
+use Rattle.parts.specs.declared.shapes.Figure.{Figure}
 use Rattle.rules.specs.Operations.{backgroundSource, foregroundSource, destinationField, patternField, maskMode, modeOf, isFill}
 use Rattle.rules.specs.Maps.{mapAt}
 use Rattle.places.specs.declared.Flow.{Flow}
@@ -33,13 +32,13 @@ flowOf operations =
     }
 
 -- 01, Registers, 7C: the field chooses the destination's map, the mask's is map 0; the plane mask counts by the destination's bits
-unfoldable pub brushOf : ℕ → List Map → Ink → Ink → Compare → ℕ → Point → Brush
-brushOf operations maps foreground background compare planes origin =
+unfoldable pub brushOf : Figure → List Map → Colours → Brush
+brushOf f maps colours =
     record {
-      destination = mapAt maps (destinationField operations);
-      mask = record { mode = maskMode operations; map = mapAt maps 0; origin = origin };
-      edge = edgeOf operations;
-      flow = flowOf operations;
-      inks = record { foreground = foreground; background = background; compare = compare };
-      depth = depthOf (bitsOf (mapAt maps (destinationField operations) .format)) planes;
+      destination = mapAt maps (destinationField (f .operations));
+      mask = record { mode = maskMode (f .operations); map = mapAt maps 0; origin = f .origin };
+      edge = edgeOf (f .operations);
+      flow = flowOf (f .operations);
+      colours = colours;
+      depth = depthOf (bitsOf (mapAt maps (destinationField (f .operations)) .format)) (colours .planes);
     }

@@ -2,7 +2,7 @@
 use Prim.Native.Nat.{ℕ}
 use Rattle.parts.specs.declared.drawing.Drawing.{Drawing}
 use Rattle.parts.specs.declared.drawing.Drawing.the-variants.{Nothing, Line, Codes, Block}
-use Rattle.rules.specs.Starts.{codeAt}
+use Rattle.rules.specs.Codes.{codeAt}
 
 -- the code that is drawn, 0 where none is
 unfoldable pub codeIn : ℕ → Drawing → ℕ

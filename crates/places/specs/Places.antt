@@ -7,7 +7,7 @@ use lib.Signed.{ltZ}
 use Rattle.numbers.specs.Choose.{choose}
 use Rattle.parts.specs.declared.drawing.Drawing.{Drawing}
 use Rattle.parts.specs.declared.drawing.Drawing.the-variants.{Nothing, Line, Codes, Block}
-use Rattle.rules.specs.Starts.{codeAt}
+use Rattle.rules.specs.Codes.{codeAt}
 use Rattle.moves.specs.declared.Turn.{Turn}
 use Rattle.moves.specs.declared.Turn.the-variants.{Stay, Forth, Back}
 use Rattle.moves.specs.declared.Travel.{Travel}
@@ -52,7 +52,7 @@ inMask b pen =
 unfoldable pub isMove : Travel → Drawing → Bool
 isMove t (Nothing stopped) = false
 isMove t (Line rose done) = false
-isMove t (Codes count code done) = eqb (codeAt (t .steps) count code / 16 % 2) 0
+isMove t (Codes count code done) = eqb (codeAt (t .figure .steps) count code / 16 % 2) 0
 isMove t (Block inside column row) = false
 
 -- 01, The functions: the first position of a line or code
@@ -65,8 +65,8 @@ isFirst (Block inside column row) = false
 -- 01, The functions: the last position of a line or code
 unfoldable pub isLast : Travel → Drawing → Bool
 isLast t (Nothing stopped) = false
-isLast t (Line rose done) = eqb done (t .dimensions .x)
-isLast t (Codes count code done) = eqb done (codeAt (t .steps) count code % 16)
+isLast t (Line rose done) = eqb done (t .figure .dimensions .x)
+isLast t (Codes count code done) = eqb done (codeAt (t .figure .steps) count code % 16)
 isLast t (Block inside column row) = false
 
 -- 003, Area Boundary Drawing (lines 2024 to 2026): going up only the first of every horizontal run, going down only the last, going
@@ -83,7 +83,7 @@ onBoundary t e (Nothing stopped) = true
 onBoundary t e (Line rose done) =
     ofRun (t .course .y) rose (not (isLast t (Line rose done)) && movesRow (lineStep (t .course) e .y))
 onBoundary t e (Codes count code done) =
-    ofRun (codeStep (codeAt (t .steps) count code) .y) (not (isFirst (Codes count code done))) (not (isLast t (Codes count code done)))
+    ofRun (codeStep (codeAt (t .figure .steps) count code) .y) (not (isFirst (Codes count code done))) (not (isLast t (Codes count code done)))
 onBoundary t e (Block inside column row) = true
 
 -- 01, The functions: first null (mode 01), last null (mode 10); 02, 102: area boundary (mode 11); for each line and each code

@@ -2,12 +2,10 @@ ghost use mathlib.Core.Path.{_≡_};
 ghost use Rattle.places.specs.Decoded.{edgeOf, flowOf, brushOf};
 use crate::Brush;
 use crate::Flow;
-use crate::Inks;
 use crate::Mask;
 use mixes::depth_of;
-use parts::shapes::Compare;
-use parts::shapes::Ink;
-use parts::shapes::Point;
+use parts::shapes::Colours;
+use parts::shapes::Figure;
 use pixels::Map;
 use pixels::bits_of;
 use rules::maps::map_at;
@@ -40,36 +38,23 @@ fn flow_of(operations: u32) -> Flow
 }
 
 // What a position needs beside its moves.
-pub fn brush_of(
-    operations: u32,
-    maps: [Map; 4],
-    foreground: Ink,
-    background: Ink,
-    compare: Compare,
-    planes: u32,
-    origin: Point,
-) -> Brush
-    ensures { λ r. ⌜ r ≡ brushOf operations maps foreground background compare planes origin ⌝ }
+pub fn brush_of(figure: Figure, maps: [Map; 4], colours: Colours) -> Brush
+    ensures { λ r. ⌜ r ≡ brushOf figure maps colours ⌝ }
 {
+    let operations = figure.operations;
+    let origin = figure.origin;
     let destination = map_at(maps, destination_field(operations));
-    let mask = Mask {
-        mode: mask_mode(operations) as u8,
-        map: maps[0],
-        origin,
-    };
+    let mode = mask_mode(operations) as u8;
+    let map = maps[0];
+    let mask = Mask { mode, map, origin };
     let flow = flow_of(operations);
-    let inks = Inks {
-        foreground,
-        background,
-        compare,
-    };
-    let depth = depth_of(bits_of(destination.format), planes);
+    let depth = depth_of(bits_of(destination.format), colours.planes);
     Brush {
         destination,
         mask,
         edge: edge_of(operations),
         flow,
-        inks,
+        colours,
         depth,
     }
 }

@@ -1,8 +1,7 @@
 // Where a position lies, and what its drawing mode holds back; and what a position needs beside its moves.
 use mixes::Depth;
 use moves::Travel;
-use parts::shapes::Compare;
-use parts::shapes::Ink;
+use parts::shapes::Colours;
 use parts::shapes::Point;
 use pixels::Map;
 
@@ -27,20 +26,13 @@ pub struct Flow {
     pub mode: u8,
 }
 
-// The mixes and colours of foreground and background, and the compare condition.
-pub struct Inks {
-    pub foreground: Ink,
-    pub background: Ink,
-    pub compare: Compare,
-}
-
 // What a position needs beside its moves, which a drawing does not change; `edge` is the lowest X that its destination counts as.
 pub struct Brush {
     pub destination: Map,
     pub mask: Mask,
     pub edge: i16,
     pub flow: Flow,
-    pub inks: Inks,
+    pub colours: Colours,
     pub depth: Depth,
 }
 

@@ -5,7 +5,7 @@ ghost use mathlib.Core.Bool.{not};
 ghost use Prim.Native.Nat.{ℕ};
 ghost use lib.Dec.{eqb};
 ghost use lib.IntN.{ℤ};
-ghost use Rattle.rules.specs.Starts.{codeAt};
+ghost use Rattle.rules.specs.Codes.{codeAt};
 ghost use Rattle.moves.specs.declared.Travel.{Travel};
 ghost use Rattle.moves.specs.Steps.{codeStep};
 ghost use Rattle.parts.specs.declared.drawing.Drawing.the-variants.{Line, Codes};
@@ -18,7 +18,7 @@ use moves::steps::code_step;
 use moves::steps::line_step;
 use moves::steps::moves_row;
 use parts::drawing::Drawing;
-use rules::starts::code_at;
+use rules::codes::code_at;
 
 // Of a horizontal run, the first going up, the last going down, and none going level.
 fn of_run(down: Turn, first: bool, last: bool) -> bool
@@ -39,7 +39,11 @@ fn line_bounds(travel: Travel, e: i32, rose: bool, done: u16) -> bool
     let step = line_step(course, e);
     let down = step.y;
     let way = course.y;
-    of_run(way, rose, (done != travel.dimensions.x) & moves_row(down))
+    of_run(
+        way,
+        rose,
+        (done != travel.figure.dimensions.x) & moves_row(down),
+    )
 }
 
 // Whether the drawing mode leaves out a position of a line.
@@ -49,7 +53,7 @@ fn line_nulled(setup: Setup, e: i32, rose: bool, done: u16) -> bool
     let mode = setup.brush.flow.mode;
     match mode {
         1 => done == 0,
-        2 => done == setup.travel.dimensions.x,
+        2 => done == setup.travel.figure.dimensions.x,
         3 => !line_bounds(setup.travel, e, rose, done),
         _ => false,
     }
@@ -67,7 +71,7 @@ fn code_bounds(code: u8, done: u16, last: bool) -> bool
 // Whether the drawing mode leaves out a position of this code.
 fn code_nulled(setup: Setup, code: u8, done: u16) -> bool
     ensures { λ r.
-        ⌜ ((e : ℤ) (count i : ℕ) → code ≡ codeAt (setup .travel .steps) count i → r ≡ nulledBy setup e (Codes count i done)) ⌝ }
+        ⌜ ((e : ℤ) (count i : ℕ) → code ≡ codeAt (setup .travel .figure .steps) count i → r ≡ nulledBy setup e (Codes count i done)) ⌝ }
 {
     let last = done == code as u16 % 16;
     let mode = setup.brush.flow.mode;
@@ -93,7 +97,7 @@ pub fn code_in(steps: u32, drawing: Drawing) -> u8
 
 // Whether a position of this code only moves, as one of a code without bit 4 does.
 pub fn is_move(code: u8, drawing: Drawing) -> bool
-    ensures { λ r. ⌜ ((t : Travel) → code ≡ codeIn (t .steps) drawing → r ≡ isMove t drawing) ⌝ }
+    ensures { λ r. ⌜ ((t : Travel) → code ≡ codeIn (t .figure .steps) drawing → r ≡ isMove t drawing) ⌝ }
 {
     match drawing {
         Drawing::Nothing { .. } => false,
@@ -105,7 +109,7 @@ pub fn is_move(code: u8, drawing: Drawing) -> bool
 
 // Whether the drawing mode leaves out a position, of this code where one is drawn.
 pub fn is_nulled(setup: Setup, code: u8, e: i32, drawing: Drawing) -> bool
-    requires { ⌜ code ≡ codeIn (setup .travel .steps) drawing ⌝ }
+    requires { ⌜ code ≡ codeIn (setup .travel .figure .steps) drawing ⌝ }
     ensures { λ r. ⌜ r ≡ nulledBy setup e drawing ⌝ }
 {
     match drawing {

@@ -5,7 +5,6 @@ ghost use Rattle.numbers.specs.Choose.{choose};
 ghost use Rattle.places.specs.Places.{isWithin, columnOf, placeX, maskX, maskY, onMap, inMask};
 use crate::Brush;
 use moves::Pen;
-use parts::reduced::both;
 use parts::shapes::Point;
 
 // A destination, counted from an origin.
@@ -66,10 +65,8 @@ pub fn mask_of(brush: Brush, pen: Pen) -> Point
 pub fn on_map(brush: Brush, pen: Pen) -> bool
     ensures { λ r. ⌜ r ≡ onMap brush pen ⌝ }
 {
-    both(
-        is_within(0, brush.destination.width, place_x(brush, pen)),
-        is_within(0, brush.destination.height, pen.pointers.destination.y),
-    )
+    is_within(0, brush.destination.width, place_x(brush, pen))
+        & is_within(0, brush.destination.height, pen.pointers.destination.y)
 }
 
 // Whether the destination is inside the mask boundary, where there is one.
@@ -79,16 +76,14 @@ pub fn in_mask(brush: Brush, pen: Pen) -> bool
     if brush.mask.mode == 0 {
         return true;
     }
-    both(
-        is_within(
-            brush.mask.origin.x,
-            brush.mask.map.width,
-            place_x(brush, pen),
-        ),
-        is_within(
+    is_within(
+        brush.mask.origin.x,
+        brush.mask.map.width,
+        place_x(brush, pen),
+    )
+        & is_within(
             brush.mask.origin.y,
             brush.mask.map.height,
             pen.pointers.destination.y,
-        ),
-    )
+        )
 }

@@ -17,11 +17,11 @@ map-at-requires c κs = search needs
 mask-mode-requires : tie.Need-mask-mode-requires
 mask-mode-requires c κs = search needs
 
-cast-t16 : tie.Need-cast-t16
-cast-t16 c = search needs
+cast-mode : tie.Need-cast-mode
+cast-mode c = search needs
 
-array-copy-out-t19 : tie.Need-array-copy-out-t19
-array-copy-out-t19 c = search needs
+array-copy-out-map : tie.Need-array-copy-out-map
+array-copy-out-map c = search needs
 
 flow-of-requires : tie.Need-flow-of-requires
 flow-of-requires c κs = search needs
@@ -56,8 +56,8 @@ brush-of-spec =
     destination-field-requires
     map-at-requires
     mask-mode-requires
-    cast-t16
-    array-copy-out-t19
+    cast-mode
+    array-copy-out-map
     flow-of-requires
     bits-of-requires
     depth-of-requires

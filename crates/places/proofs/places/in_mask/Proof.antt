@@ -21,22 +21,18 @@ is-within-requires c κs = search needs
 is-within-requires-2 : tie.Need-is-within-requires-2
 is-within-requires-2 c κs = search needs
 
-both-requires : tie.Need-both-requires
-both-requires c κs = search needs
-
 returns-2 : tie.Need-returns-2
 unfolding maskX maskY inMask
 returns-2 c =
-    let a = c .before .before .before .before .before .before .before .args in
-    let place = c .before .before .before .before in
+    let a = c .before .before .before .before .before .before .args in
+    let place = c .before .before .before in
     let across = toZ-ofZ w16 (place .place-x .result) (record { sfits = place .place-x .ok }) ∙ place .place-x .ensures in
     rw (
-      c .both .ensures,
-      c .before .is-within2 .ensures,
-      c .before .before .before .is-within .ensures,
-      ne-eqb _ _ (c .before .before .before .before .before .if1 .left),
+      c .is-within2 .ensures,
+      c .before .before .is-within .ensures,
+      ne-eqb _ _ (c .before .before .before .before .if1 .left),
     )
-    (rw (across, toZ-ofZ w16 (a .pen .pointers .destination .y) (search (needs, c .before .before .struct-told .given .0 .1 .1))))
+    (rw (across, toZ-ofZ w16 (a .pen .pointers .destination .y) (search (needs, c .before .struct-told .given .0 .1 .1))))
 
 pub in-mask-spec : {M : Type 1} → statement M
 in-mask-spec =
@@ -46,5 +42,4 @@ in-mask-spec =
     place-x-requires
     is-within-requires
     is-within-requires-2
-    both-requires
     returns-2)

@@ -17,19 +17,16 @@ is-within-requires c κs = search needs
 is-within-requires-2 : tie.Need-is-within-requires-2
 is-within-requires-2 c κs = search needs
 
-both-requires : tie.Need-both-requires
-both-requires c κs = search needs
-
 returns : tie.Need-returns
 unfolding onMap
 returns c =
-    let a = c .before .before .before .before .before .args in
-    let place = c .before .before .before .before in
+    let a = c .before .before .before .before .args in
+    let place = c .before .before .before in
     let across = toZ-ofZ w16 (place .place-x .result) (record { sfits = place .place-x .ok }) ∙ place .place-x .ensures in
-    rw (c .both .ensures, c .before .is-within2 .ensures, c .before .before .before .is-within .ensures)
+    rw (c .is-within2 .ensures, c .before .before .is-within .ensures)
     (rw (
       across,
-      toZ-ofZ w16 (a .pen .pointers .destination .y) (search (needs, c .before .before .struct-told .given .0 .1 .1)),
+      toZ-ofZ w16 (a .pen .pointers .destination .y) (search (needs, c .before .struct-told .given .0 .1 .1)),
       +ℤ-idr (placeX (a .brush) (a .pen)),
       +ℤ-idr (a .pen .pointers .destination .y),
     ))
@@ -37,4 +34,4 @@ returns c =
 pub on-map-spec : {M : Type 1} → statement M
 on-map-spec =
     tie.close
-    (tie.spec place-x-requires is-within-requires is-within-requires-2 both-requires returns)
+    (tie.spec place-x-requires is-within-requires is-within-requires-2 returns)
