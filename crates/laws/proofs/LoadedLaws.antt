@@ -2,8 +2,8 @@
 use mathlib.Core.Path.{_≡_, refl, sym, ap, _∙_}
 use mathlib.Core.Bool.{true}
 use mathlib.Core.Logic.{_↔_}
-use mathlib.Core.List.{List, [], _∷_, _++_}
-use Prim.Native.Nat.{ℕ, zero, suc, _+_, _*_, _%_, _^_, _≤_, _<_}
+use mathlib.Core.List.{List, [], _∷_, _++_, map}
+use Prim.Native.Nat.{ℕ, zero, suc, _+_, _%_, _^_, _≤_, _<_}
 use native.Mathlib.Omega.{arith}
 use lib.Dec.{lit<}
 use lib.ListN.{length, getD, take, drop, take-append-drop, drop-of-length-le}
@@ -13,24 +13,25 @@ use mir.Val.{toZ}
 use borrow.Author.Tests.{eq-eqb, eqb-true}
 use Rattle.numbers.specs.Bytes.{le}
 use Rattle.numbers.specs.Circles.{residue}
-use Rattle.pixels.specs.declared.Map.{Map}
-use Rattle.rules.specs.Maps.{freshMap, mapAt}
-use Rattle.image.specs.Words.{pointWord, spotWord, inksWord, mapWords, termWords, colourWords, pointerWords, bankOf}
-use Rattle.image.specs.Counters.{countersOf}
-use Rattle.image.specs.Fields.{Field, _bytes_, laid, counterFields, headFields, mapFields, mapsFields, wordFields, bankFields, fieldsBy}
-use Rattle.image.specs.Places.{at, mapFrom, inkFrom, pointFrom, spotFrom, mapsFrom, termsFrom, compareFrom, countersFrom}
-use Rattle.coprocessor.specs.declared.Coprocessor.{Coprocessor}
-use Rattle.coprocessor.specs.Valid.{validOf}
-use Rattle.coprocessor.specs.Reads.{wordsOf}
-use Rattle.coprocessor.specs.Images.{fieldsOf, imageOf, loaded, loads, saves, saved}
-use Rattle.coprocessor.specs.Inner.{loadsBy}
-use Rattle.coprocessor.proofs.ImageRules.{loads-by}
-use Rattle.theorems.specs.Held.{Held}
-use Rattle.theorems.proofs.DrawingLaws.{same-counters}
-use Rattle.theorems.proofs.ImageLaws.{loads-image, loaded-image}
-use Rattle.numbers.proofs.BytePartLaws.{number-lt, number-split, le-part}
+use Rattle.numbers.proofs.BytePartLaws.{number-lt, le-part}
 use Rattle.numbers.proofs.SignedBytes.{residue-signed}
 use Rattle.numbers.proofs.Choices.{and-left, and-right}
+use Rattle.pixels.specs.declared.Map.{Map}
+use Rattle.parts.specs.Registers.{Register, others}
+use Rattle.rules.specs.Maps.{freshMap, mapAt}
+use Rattle.image.specs.Counters.{countersOf}
+use Rattle.image.specs.Layout.{at, imageLength}
+use Rattle.image.specs.Bank.{otherValues}
+use Rattle.image.specs.Fields.{Field, laid, counterFields, headFields, mapFields, mapsFields, registerFields, fieldsOf}
+use Rattle.image.specs.Read.{countersFrom, mapFrom, mapsFrom, valueFrom, termsFrom, inkFrom, coloursFrom, pointFrom, figureFrom, spotFrom, pointersFrom, registersFrom}
+use Rattle.coprocessor.specs.declared.Coprocessor.{Coprocessor}
+use Rattle.coprocessor.specs.Valid.{validOf}
+use Rattle.coprocessor.specs.Images.{imageOf, loaded, loads, saves, saved}
+use Rattle.coprocessor.specs.Inner.{loadsBy}
+use Rattle.coprocessor.proofs.ImageRules.{loads-by}
+use Rattle.laws.specs.Held.{Held}
+use Rattle.laws.proofs.DrawingLaws.{same-counters}
+use Rattle.laws.proofs.ImageLaws.{loads-image, loaded-image}
 
 pub loaded-valid : (b : List ℕ) → loads b ≡ true → validOf (loaded b) ≡ true
 unfolding loadsBy
@@ -39,13 +40,14 @@ loaded-valid b e = let by : loadsBy b ≡ true = loads-by b ∙ e in search (by,
 -- the fields of these widths, read one after another from this offset on
 unfoldable reads : List ℕ → ℕ → List ℕ → List Field
 reads b k [] = []
-reads b k (n ∷ ns) = (n bytes (at k n b)) ∷ reads b (k + n) ns
+reads b k (n ∷ ns) = record { bytes = n; value = at k n b } ∷ reads b (k + n) ns
 
--- 01, State image: mark to map index, four maps, and the registers
+-- 01, State image: how many bytes each field has, from mark to map index, in a map, and in the registers
 unfoldable widths : List ℕ
 widths =
-    3 ∷ 2 ∷ 4 ∷ 1 ∷ 2 ∷ 2 ∷ 1 ∷ 1 ∷ 4 ∷ 2 ∷ 2 ∷ 1 ∷ 4 ∷ 2 ∷ 2 ∷ 1 ∷ 4 ∷ 2 ∷ 2 ∷ 1 ∷ 4 ∷ 2 ∷ 2 ∷ 1
-    ∷ 4 ∷ 4 ∷ 4 ∷ 4 ∷ 3 ∷ 4 ∷ 4 ∷ 4 ∷ 4 ∷ 4 ∷ 4 ∷ 4 ∷ 4 ∷ 4 ∷ 4 ∷ 4 ∷ []
+    (3 ∷ 2 ∷ 4 ∷ 1 ∷ 2 ∷ 2 ∷ 1 ∷ 1 ∷ [])
+    ++ (4 ∷ 2 ∷ 2 ∷ 1 ∷ 4 ∷ 2 ∷ 2 ∷ 1 ∷ 4 ∷ 2 ∷ 2 ∷ 1 ∷ 4 ∷ 2 ∷ 2 ∷ 1 ∷ [])
+    ++ map (λ (r : Register). r .bytes) others
 
 unfoldable total : List ℕ → ℕ
 total [] = 0
@@ -68,34 +70,18 @@ module _ (b : List ℕ) (small : (i : ℕ) → getD b i 0 < 256) where
   laid-reads (n ∷ ns) k e =
       rw (le-at k n (omega arith), laid-reads ns (k + n) (omega arith), ← drop-drop n k b) (take-append-drop n (drop k b))
 
-  at-split : (k n m : ℕ) → at k (n + m) b ≡ at k n b + 256 ^ n * at (k + n) m b
-  unfolding at
-  at-split k n m = number-split k n m b
-
   signed-at : (k : ℕ) → residue (2 ^ 32) (toZ w32 (at k 4 b)) ≡ at k 4 b
   signed-at k = residue-signed w32 (at k 4 b) (record { fits = at-lt k 4 })
 
   half-at : (k : ℕ) → residue (2 ^ 16) (toZ w16 (at k 2 b)) ≡ at k 2 b
   half-at k = residue-signed w16 (at k 2 b) (record { fits = at-lt k 2 })
 
-  point-at : (k : ℕ) → at k 2 b + 65536 * at (k + 2) 2 b ≡ at k 4 b
-  point-at k = sym (at-split k 2 2)
-
-  spot-at : (k : ℕ) → residue (2 ^ 16) (toZ w16 (at k 2 b)) + 65536 * residue (2 ^ 16) (toZ w16 (at (k + 2) 2 b)) ≡ at k 4 b
-  spot-at k = rw (half-at k, half-at (k + 2)) (point-at k)
-
-  inks-at : at 68 1 b + 256 * at 69 1 b + 65536 * at 70 1 b ≡ at 68 3 b
-  inks-at =
-      let low : at 68 3 b ≡ at 68 1 b + 256 * at 69 2 b = at-split 68 1 2 in
-      let high : at 69 2 b ≡ at 69 1 b + 256 * at 70 1 b = at-split 69 1 1 in
-      omega arith
-
   -- ---- the record's image
 
   module _ (e : loadsBy b ≡ true) where
-    long : length b ≡ 115
+    long : length b ≡ imageLength
     unfolding loadsBy
-    long = eqb-true (length b) 115 (search (and-left, and-right))
+    long = eqb-true (length b) imageLength (search (and-left, and-right))
 
     mark : 0x534758 ≡ at 0 3 b
     unfolding loadsBy
@@ -109,31 +95,39 @@ module _ (b : List ℕ) (small : (i : ℕ) → getD b i 0 < 256) where
     unfolding loadsBy
     counters = sym (same-counters (countersFrom b) (countersOf (loaded b .drawing)) (search (and-left, and-right)))
 
-    fields-read : fieldsOf (loaded b) ≡ reads b 0 widths
-    unfolding fieldsOf fieldsBy headFields counterFields mapsFields mapFields bankFields wordFields wordsOf mapWords termWords colourWords pointerWords bankOf mapAt loaded mapsFrom mapFrom termsFrom inkFrom compareFrom pointFrom spotFrom countersFrom pointWord spotWord inksWord reads widths
-    fields-read = λ i.
-        (3 bytes (mark i)) ∷ (2 bytes (version i)) ∷ (4 bytes (at 5 4 b))
-        ∷ (1 bytes (counters i .state)) ∷ (2 bytes (counters i .done)) ∷ (2 bytes (counters i .gone)) ∷ (1 bytes (counters i .count))
-        ∷ (1 bytes (at 15 1 b))
-        ∷ mapFields (mapFrom 16 b) ++ mapFields (mapFrom 25 b) ++ mapFields (mapFrom 34 b) ++ mapFields (mapFrom 43 b)
-        ++ (4 bytes (signed-at 52 i)) ∷ (4 bytes (signed-at 56 i)) ∷ (4 bytes (signed-at 60 i)) ∷ (4 bytes (at 64 4 b))
-        ∷ (3 bytes (inks-at i))
-        ∷ (4 bytes (at 71 4 b)) ∷ (4 bytes (at 75 4 b)) ∷ (4 bytes (at 79 4 b)) ∷ (4 bytes (at 83 4 b)) ∷ (4 bytes (at 87 4 b))
-        ∷ (4 bytes (point-at 91 i))
-        ∷ (4 bytes (point-at 95 i)) ∷ (4 bytes (point-at 99 i)) ∷ (4 bytes (point-at 103 i)) ∷ (4 bytes (spot-at 107 i)) ∷ (4 bytes (at 111 4 b))
+    values-read : otherValues (registersFrom b) ≡ map (λ (r : Register). valueFrom r b) others
+    unfolding otherValues registersFrom termsFrom coloursFrom inkFrom figureFrom pointFrom pointersFrom spotFrom others map
+    values-read = λ i.
+        signed-at 52 i ∷ signed-at 56 i ∷ signed-at 60 i ∷ at 64 4 b
+        ∷ at 68 1 b ∷ at 69 1 b ∷ at 70 1 b
+        ∷ at 71 4 b ∷ at 75 4 b ∷ at 79 4 b ∷ at 83 4 b ∷ at 87 4 b
+        ∷ at 91 2 b ∷ at 93 2 b ∷ at 95 2 b ∷ at 97 2 b ∷ at 99 2 b ∷ at 101 2 b ∷ at 103 2 b ∷ at 105 2 b
+        ∷ half-at 107 i ∷ half-at 109 i
+        ∷ at 111 4 b
         ∷ []
 
+    fields-read : fieldsOf (loaded b .size) (loaded b .maps) (loaded b .registers) (loaded b .drawing) ≡ reads b 0 widths
+    unfolding fieldsOf headFields counterFields mapsFields mapFields registerFields others map mapAt loaded mapsFrom mapFrom registersFrom countersFrom widths reads
+    fields-read = λ i.
+        record { bytes = 3; value = mark i }
+        ∷ record { bytes = 2; value = version i }
+        ∷ record { bytes = 4; value = at 5 4 b }
+        ∷ counterFields (counters i)
+        ++ record { bytes = 1; value = at 15 1 b }
+        ∷ mapsFields (mapsFrom b)
+        ++ registerFields others (values-read i)
+
     image-read : imageOf (loaded b) ≡ b
-    unfolding imageOf total widths
+    unfolding imageOf total widths map others
     image-read = ap laid fields-read ∙ laid-reads widths 0 (sym long)
 
 pub image-loaded : (b : List ℕ) → loads b ≡ true → ((i : ℕ) → getD b i 0 < 256) → imageOf (loaded b) ≡ b
 image-loaded b e small = image-read b small (loads-by b ∙ e)
 
 -- load, then save
-pub save-load : (b into : List ℕ) → loads b ≡ true → ((i : ℕ) → getD b i 0 < 256) → length into ≡ 115 → saved (loaded b) into ≡ b
+pub save-load : (b into : List ℕ) → loads b ≡ true → ((i : ℕ) → getD b i 0 < 256) → length into ≡ imageLength → saved (loaded b) into ≡ b
 unfolding saved saves
-save-load b into e small long = rw (eq-eqb (length into) 115 long, loaded-valid b e) (image-loaded b e small)
+save-load b into e small long = rw (eq-eqb (length into) imageLength long, loaded-valid b e) (image-loaded b e small)
 
 -- ---- what its types hold it to
 
@@ -149,21 +143,25 @@ each-map P m a b c pm pa pb pc none i = go (i % 4)
     go (suc (suc (suc (suc k)))) = none
 
 pub held-loaded : (b : List ℕ) → ((i : ℕ) → getD b i 0 < 256) → Held (loaded b)
-unfolding loaded mapsFrom mapFrom inkFrom compareFrom
+unfolding loaded mapsFrom mapFrom registersFrom coloursFrom inkFrom figureFrom
 held-loaded b small =
     let lt : (k n : ℕ) → at k n b < 256 ^ n = at-lt b small in
     record {
       four = refl;
-      bases = each-map (λ (m : Map). m .base < 2 ^ 32) (mapFrom 16 b) (mapFrom 25 b) (mapFrom 34 b) (mapFrom 43 b) (lt 16 4) (lt 25 4) (lt 34 4) (lt 43 4) (lit< tt);
-      steps = lt 64 4;
-      foreground-mix = lt 68 1;
-      background-mix = lt 69 1;
-      foreground-colour = lt 83 4;
-      background-colour = lt 87 4;
-      compare-value = lt 71 4;
-      planes = lt 75 4;
-      carries = lt 79 4;
-      operations = lt 111 4;
+      bases =
+          each-map (λ (m : Map). m .base < 2 ^ 32) (mapFrom 0 b) (mapFrom 1 b) (mapFrom 2 b) (mapFrom 3 b)
+          (lt 16 4) (lt 25 4) (lt 34 4) (lt 43 4) (lit< tt);
+      colours =
+          record {
+            foreground-mix = lt 68 1;
+            background-mix = lt 69 1;
+            compare-value = lt 71 4;
+            planes = lt 75 4;
+            carries = lt 79 4;
+            foreground-colour = lt 83 4;
+            background-colour = lt 87 4;
+          };
+      figure = record { steps = lt 64 4; operations = lt 111 4 };
     }
 
 -- ---- a record and its own image

@@ -12,23 +12,24 @@ use Rattle.numbers.specs.declared.bytes.Write.{Write}
 use Rattle.numbers.proofs.ByteLaws.{latched-whole}
 use Rattle.numbers.proofs.Choices.{and-left, and-right}
 use Rattle.parts.specs.Refusals.{isAccepted}
-use Rattle.parts.specs.Latches.{touched, taken, takenLow, takenTerm, takenDestination}
-use Rattle.parts.specs.Registers.{registers, among, placed, listed}
-use Rattle.parts.specs.Shapes.{mapTaken, termsTaken, inkTaken, compareTaken, pointTaken, spotTaken}
+use Rattle.parts.specs.Registers.{selected, others, registers, among, placed, listed}
+use Rattle.parts.specs.Takes.{touched, taken, takenOnto}
+use Rattle.parts.specs.Latches.{mapLatched, termsLatched, inkLatched, compareLatched, pointLatched, spotLatched}
+use Rattle.parts.specs.Latches.{coloursLatched, figureLatched, pointersLatched, registersLatched}
 use Rattle.parts.proofs.Every.{every, every-at}
 use Rattle.rules.specs.Maps.{freshMap, mapAt}
+use Rattle.image.specs.Bank.{mapValues, otherValues, valuesOf}
 use Rattle.coprocessor.specs.declared.Coprocessor.{Coprocessor}
 use Rattle.coprocessor.specs.Valid.{validOf}
-use Rattle.theorems.specs.Held.{Held}
 use Rattle.coprocessor.specs.Writes.{stored, startsBy, started, settledBy, writeRefusal, writeAnswer}
-use Rattle.coprocessor.specs.Runs.{withPen}
-use Rattle.theorems.specs.ReadBack.{registerAt, shown, storedOf, mapping, selecting, Selected}
 use Rattle.coprocessor.proofs.PlaceLaws.{placed-known}
-use Rattle.theorems.proofs.AcceptedWrites.{accepted-allowed, by-write}
-use Rattle.theorems.proofs.MapsLaws.{map-other}
-use Rattle.theorems.proofs.ValidWrites.{write-valid}
-use Rattle.theorems.proofs.HeldWrites.{held-written}
-use Rattle.theorems.proofs.StoredValues.{value-stored}
+use Rattle.laws.specs.Held.{Held}
+use Rattle.laws.specs.ReadBack.{registerAt, shown, indexed, selecting, Selected}
+use Rattle.laws.proofs.AcceptedWrites.{accepted-allowed, by-write}
+use Rattle.laws.proofs.MapsLaws.{map-other}
+use Rattle.laws.proofs.ValidWrites.{write-valid}
+use Rattle.laws.proofs.HeldWrites.{held-written}
+use Rattle.laws.proofs.StoredValues.{storedOf, value-stored}
 
 -- ---- a write of the index
 
@@ -38,7 +39,7 @@ alone offset length =
     not (placed offset length && listed length offset && (ltb offset 0x13 && ltb 0x12 (offset + length))) || (eqb offset 0x12 && eqb length 1)
 
 all-alone : every 0x13 (λ offset. every 5 (alone offset)) ≡ true
-unfolding registers among listed placed every alone
+unfolding selected others registers among listed placed every alone
 all-alone = refl
 
 -- a write of this value to the index
@@ -58,13 +59,15 @@ index-alone w c accepted touches =
     let length : w .length ≡ 1 = eqb-true _ _ (search (place, and-right)) in
     λ i. record { offset = offset i; length = length i; value = w .value }
 
-merged-index : (value : ℕ) (c : Coprocessor) → stored (indexWrite value) c ≡ selecting (low 2 value) c
-unfolding touched taken takenLow takenTerm takenDestination mapTaken termsTaken inkTaken compareTaken pointTaken spotTaken mapAt stored mapping selecting
-merged-index value c =
-    let stored = latched-whole 1 0x12 (indexWrite value) (c .index) refl refl in
-    let index : latched 1 0x12 (indexWrite value) (c .index) % 4 ≡ value % 4 = rw stored (omega arith) in
-    let maps = set-getD (c .maps) (c .index % 4) freshMap in
-    λ i. mapping (index i) (maps i) c
+stored-index : (value : ℕ) (c : Coprocessor) → stored (indexWrite value) c ≡ selecting (low 2 value) c
+unfolding touched taken takenOnto mapLatched termsLatched inkLatched compareLatched pointLatched spotLatched coloursLatched figureLatched pointersLatched
+    registersLatched mapAt stored indexed selecting
+stored-index value c =
+    let old = c .registers .index in
+    let byte = latched-whole 1 0x12 (indexWrite value) old refl refl in
+    let index : latched 1 0x12 (indexWrite value) old % 4 ≡ value % 4 = rw byte (omega arith) in
+    let maps = set-getD (c .maps) (old % 4) freshMap in
+    λ i. record { size = c .size; maps = maps i; registers = indexed (index i) (c .registers); drawing = c .drawing }
 
 -- it starts nothing
 settled-index : (value : ℕ) (c : Coprocessor) → settledBy (indexWrite value) c ≡ c
@@ -77,11 +80,11 @@ unfolding writeAnswer
 index-settled w c accepted touches =
     let same = index-alone w c accepted touches in
     let settled = settled-index (w .value) (stored (indexWrite (w .value)) c) in
-    rw accepted (ap (λ (v : Write). settledBy v (stored v c)) same ∙ settled ∙ merged-index (w .value) c)
+    rw accepted (ap (λ (v : Write). settledBy v (stored v c)) same ∙ settled ∙ stored-index (w .value) c)
 
 -- the registers after the map's do not tell which map is selected
 stored-selecting : (chosen : ℕ) (c : Coprocessor) (i : ℕ) → 5 ≤ i → getD (storedOf (selecting chosen c)) i 0 ≡ getD (storedOf c) i 0
-unfolding storedOf mapping selecting
+unfolding valuesOf mapValues otherValues indexed selecting
 stored-selecting chosen c zero h = absurd (omega arith)
 stored-selecting chosen c (suc zero) h = absurd (omega arith)
 stored-selecting chosen c (suc (suc zero)) h = absurd (omega arith)
@@ -91,7 +94,7 @@ stored-selecting chosen c (suc (suc (suc (suc (suc i))))) h = refl
 
 pub index-written : (w : Write) (c : Coprocessor) → Held c → isAccepted (writeRefusal w c) ≡ true → touched 1 0x12 w ≡ true
     → Selected (low 2 (w .value)) c (writeAnswer w c .coprocessor)
-unfolding registers registerAt storedOf mapping selecting
+unfolding selected others registers registerAt valuesOf mapValues indexed selecting
 index-written w c held accepted touches =
     record {
       index = reads 0;
@@ -112,8 +115,10 @@ index-written w c held accepted touches =
 
 -- ---- the other maps
 
-pub maps-stay : (w : Write) (c : Coprocessor) (j : ℕ) → j < 4 → (j ≡ c .index % 4 → ⊥) → mapAt (writeAnswer w c .coprocessor .maps) j ≡ mapAt (c .maps) j
-unfolding started withPen
+pub maps-stay : (w : Write) (c : Coprocessor) (j : ℕ) → j < 4 → (j ≡ c .registers .index % 4 → ⊥)
+    → mapAt (writeAnswer w c .coprocessor .maps) j ≡ mapAt (c .maps) j
+unfolding started
 maps-stay w c j h other =
     let apart = map-other w c j (λ e. other (omega arith)) in
-    by-write w c (λ (d : Coprocessor). mapAt (d .maps) j ≡ mapAt (c .maps) j) (λ refused. refl) (λ accepted none. apart) (λ accepted starts. apart)
+    by-write w c (λ (d : Coprocessor). mapAt (d .maps) j ≡ mapAt (c .maps) j) (λ refused. refl) (λ accepted none. apart)
+    (λ accepted starts. apart)

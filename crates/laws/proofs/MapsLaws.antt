@@ -9,7 +9,7 @@ use lib.Seq.{getD-set-same, getD-set-other}
 use Rattle.numbers.specs.declared.bytes.Write.{Write}
 use Rattle.numbers.proofs.Choices.{and-left, and-right}
 use Rattle.pixels.specs.declared.Map.{Map}
-use Rattle.parts.specs.Shapes.{mapTaken}
+use Rattle.parts.specs.Latches.{mapLatched}
 use Rattle.parts.specs.Reduced.{mapReduced}
 use Rattle.rules.specs.Maps.{freshMap, mapAt}
 use Rattle.coprocessor.specs.declared.Coprocessor.{Coprocessor}
@@ -26,9 +26,9 @@ below-four P a b c d (suc (suc zero)) h = c
 below-four P a b c d (suc (suc (suc zero))) h = d
 below-four P a b c d (suc (suc (suc (suc k)))) h = absurd (omega arith)
 
-pub map-reduced : (maps : List Map) → mapsReduced maps ≡ true → (field : ℕ) → mapReduced (mapAt maps field) ≡ true
+pub each-reduced : (maps : List Map) → mapsReduced maps ≡ true → (field : ℕ) → mapReduced (mapAt maps field) ≡ true
 unfolding mapAt mapsReduced
-map-reduced maps e field =
+each-reduced maps e field =
     below-four (λ (k : ℕ). mapReduced (getD maps k freshMap) ≡ true)
     (search (e, and-left, and-right)) (search (e, and-left, and-right)) (search (e, and-left, and-right)) (search (e, and-left, and-right))
     (field % 4) (omega arith)
@@ -44,15 +44,17 @@ set-either P (x ∷ l) (suc i) zero a d p q = q
 set-either P (x ∷ l) (suc i) (suc j) a d p q = set-either P l i j a d p q
 
 module _ (w : Write) (c : Coprocessor) where
-  pub map-either : (P : Map → Type 0) (field : ℕ) → P (mapTaken w (mapAt (c .maps) (c .index))) → P (mapAt (c .maps) field)
+  pub map-either : (P : Map → Type 0) (field : ℕ) → P (mapLatched w (mapAt (c .maps) (c .registers .index)))
+      → P (mapAt (c .maps) field)
       → P (mapAt (stored w c .maps) field)
   unfolding mapAt stored
-  map-either P field = set-either P (c .maps) (c .index % 4) (field % 4) _ freshMap
+  map-either P field = set-either P (c .maps) (c .registers .index % 4) (field % 4) _ freshMap
 
-  pub map-selected : length (c .maps) ≡ 4 → mapAt (stored w c .maps) (c .index) ≡ mapTaken w (mapAt (c .maps) (c .index))
+  pub map-selected : length (c .maps) ≡ 4
+      → mapAt (stored w c .maps) (c .registers .index) ≡ mapLatched w (mapAt (c .maps) (c .registers .index))
   unfolding mapAt stored
-  map-selected four = getD-set-same (c .maps) (c .index % 4) _ freshMap (omega arith)
+  map-selected four = getD-set-same (c .maps) (c .registers .index % 4) _ freshMap (omega arith)
 
-  pub map-other : (field : ℕ) → (field % 4 ≡ c .index % 4 → ⊥) → mapAt (stored w c .maps) field ≡ mapAt (c .maps) field
+  pub map-other : (field : ℕ) → (field % 4 ≡ c .registers .index % 4 → ⊥) → mapAt (stored w c .maps) field ≡ mapAt (c .maps) field
   unfolding mapAt stored
-  map-other field other = getD-set-other (c .maps) (c .index % 4) (field % 4) _ freshMap other
+  map-other field other = getD-set-other (c .maps) (c .registers .index % 4) (field % 4) _ freshMap other

@@ -8,7 +8,7 @@ use lib.Dec.{eqb}
 use borrow.Author.Tests.{eq-eqb, eqb-true}
 use Rattle.numbers.specs.Choose.{choose}
 use Rattle.numbers.proofs.Choices.{and-left, and-right}
-use Rattle.parts.specs.declared.shapes.Point.{Point}
+use Rattle.parts.specs.declared.shapes.Figure.{Figure}
 use Rattle.parts.specs.declared.drawing.Drawing.{Drawing}
 use Rattle.parts.specs.declared.drawing.Drawing.the-variants.{Nothing, Line, Codes, Block}
 use Rattle.parts.specs.Drawings.{unfinished}
@@ -20,7 +20,7 @@ use Rattle.image.specs.declared.counters.Counters.{Counters}
 use Rattle.image.specs.Counters.{countersOf, drawingOf}
 use Rattle.image.specs.Inner.{sameCounters}
 use Rattle.coprocessor.proofs.PlaceLaws.{or-cases, lengths}
-use Rattle.theorems.proofs.ValidFields.{point-bounds}
+use Rattle.laws.proofs.ValidFields.{point-bounds}
 
 -- ---- the three kinds of functions
 
@@ -66,38 +66,39 @@ told : (bit : Bool) → Told bit
 told true = record { no-zero = refl; no-two = refl; told = refl; fits = omega arith }
 told false = record { no-zero = refl; no-two = refl; told = refl; fits = omega arith }
 
-module _ (operations : ℕ) (dimensions : Point) (steps : ℕ) where
-  pub drawing-counted : (d : Drawing) → (unfinished d ≡ true → countersHold operations dimensions steps d ≡ true) → drawingOf operations (countersOf d) ≡ d
+module _ (f : Figure) where
+  pub drawing-counted : (d : Drawing) → (unfinished d ≡ true → countersHold f d ≡ true)
+      → drawingOf (f .operations) (countersOf d) ≡ d
   unfolding drawingOf countersOf
   drawing-counted (Nothing true) holds = refl
   drawing-counted (Nothing false) holds = refl
   drawing-counted (Line rose done) holds =
       let state = told rose in
-      rw (state .no-zero, state .no-two, line-held operations dimensions steps done rose (holds refl) .function, state .told)
+      rw (state .no-zero, state .no-two, line-held f done rose (holds refl) .function, state .told)
   drawing-counted (Codes count code done) holds =
-      let function = codes-held operations dimensions steps count code done (holds refl) .function in
-      rw (codes-no-line operations function, function)
+      let function = codes-held f count code done (holds refl) .function in
+      rw (codes-no-line (f .operations) function, function)
   drawing-counted (Block inside column row) holds =
       let state = told inside in
-      let function = block-held operations dimensions steps column row inside (holds refl) .function in
-      rw (state .no-zero, state .no-two, block-no-line operations function, block-no-codes operations function, state .told)
+      let function = block-held f column row inside (holds refl) .function in
+      rw (state .no-zero, state .no-two, block-no-line (f .operations) function, block-no-codes (f .operations) function, state .told)
 
-  pub counters-fit : pointReduced dimensions ≡ true → (d : Drawing) → (unfinished d ≡ true → countersHold operations dimensions steps d ≡ true)
+  pub counters-fit : pointReduced (f .dimensions) ≡ true → (d : Drawing) → (unfinished d ≡ true → countersHold f d ≡ true)
       → CountersFit (countersOf d)
   unfolding countersOf
   counters-fit r (Nothing true) holds = omega arith
   counters-fit r (Nothing false) holds = omega arith
   counters-fit r (Line rose done) holds =
-      let held = line-held operations dimensions steps done rose (holds refl) in
-      let bounds = point-bounds dimensions r in
+      let held = line-held f done rose (holds refl) in
+      let bounds = point-bounds (f .dimensions) r in
       let state = told rose in
       omega arith
   counters-fit r (Codes count code done) holds =
-      let held = codes-held operations dimensions steps count code done (holds refl) in
+      let held = codes-held f count code done (holds refl) in
       ⊎-elim (λ p. omega arith) (⊎-elim (λ p. omega arith) (λ p. omega arith)) (lengths count (held .counted))
   counters-fit r (Block inside column row) holds =
-      let held = block-held operations dimensions steps column row inside (holds refl) in
-      let bounds = point-bounds dimensions r in
+      let held = block-held f column row inside (holds refl) in
+      let bounds = point-bounds (f .dimensions) r in
       let state = told inside in
       omega arith
 
@@ -105,7 +106,10 @@ module _ (operations : ℕ) (dimensions : Point) (steps : ℕ) where
 
 pub counters-same : (k : Counters) → sameCounters k k ≡ true
 unfolding sameCounters
-counters-same k = rw (eq-eqb (k .state) (k .state) refl, eq-eqb (k .done) (k .done) refl, eq-eqb (k .gone) (k .gone) refl, eq-eqb (k .count) (k .count) refl)
+counters-same k =
+    let done = eq-eqb (k .done) (k .done) refl in
+    let gone = eq-eqb (k .gone) (k .gone) refl in
+    rw (eq-eqb (k .state) (k .state) refl, done, gone, eq-eqb (k .count) (k .count) refl)
 
 pub same-counters : (j k : Counters) → sameCounters j k ≡ true → j ≡ k
 unfolding sameCounters

@@ -1,0 +1,11 @@
+pub mod MapsLaws
+pub mod ValidFields
+pub mod AcceptedWrites
+pub mod ValidWrites
+pub mod HeldWrites
+pub mod DrawingLaws
+pub mod ImageLaws
+pub mod LoadedLaws
+pub mod StoredValues
+pub mod ReadBack
+pub mod MapIndex
