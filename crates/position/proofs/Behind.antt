@@ -1,25 +1,25 @@
 -- What lies behind the memory neither shows in a position nor is changed by it: each pixel that the position reads or writes lies in the memory.
 use mathlib.Core.Path.{_≡_, refl, ap, ap₂, _∙_}
-use mathlib.Core.Bool.{Bool, true, false, not, _&&_, _||_}
+use mathlib.Core.Bool.{Bool, true, false, not, _&&_}
 use mathlib.Core.List.{List, _++_}
 use Prim.Native.Nat.{ℕ}
 use lib.ListN.{length}
 use lib.Dec.{eqb}
 use borrow.Author.Tests.{eqb-true}
 use Rattle.numbers.specs.Choose.{choose}
-use Rattle.pixels.specs.Pixels.{pixelAt}
 use Rattle.pixels.proofs.Pixels.{pixel-append, put-append}
 use Rattle.parts.specs.Drawings.{insideOf, withInside}
-use Rattle.moves.specs.declared.Setup.{Setup}
 use Rattle.moves.specs.declared.Pen.{Pen}
 use Rattle.moves.specs.Moves.{penWith}
-use Rattle.places.specs.Places.{columnOf, onMap, maskX, maskY, inMask, isMove, isNulled}
-use Rattle.position.specs.Fates.{destinationPixel, onZero, isCompared}
-use Rattle.position.specs.Drawn.{sourcePixel, isOne, insideAt, crossed, isForeground, inkOf, picked, mixedPixel, drawn}
+use Rattle.places.specs.declared.Setup.{Setup}
+use Rattle.places.specs.Places.{onMap, inMask, isMove, isNulled}
+use Rattle.position.specs.declared.Fate.{Fate}
+use Rattle.position.specs.declared.Fate.the-variants.{Moved, Nulled, OutsideMap, OutsideMask, MaskZero, Compared, Painted}
+use Rattle.position.specs.Fates.{destinationPixel, onZero, isCompared, fateOf}
+use Rattle.position.specs.Drawn.{sourcePixel, isOne, insideAt, crossed, isForeground, inkOf, picked, mixedPixel, drawnBy, drawn}
 use Rattle.position.specs.Within.{Within}
-use Rattle.position.specs.Inner.{isLeftOut, writtenOf}
-use Rattle.position.proofs.Writing.{drawn-in}
-use Rattle.position.proofs.Safety.{derived-reads, picked-reads, left-in}
+use Rattle.position.proofs.Writing.{judged, fated-same, open-inside, painted-open}
+use Rattle.position.proofs.Safety.{derived-reads, picked-reads}
 
 -- a choice of which one side is asked for only where its test holds
 chosen : {A : Type 0} (t : Bool) (a b c : A) → (t ≡ true → a ≡ b) → choose t a c ≡ choose t b c
@@ -31,44 +31,17 @@ asked-only : (t a b : Bool) → (t ≡ true → a ≡ b) → (t && a) ≡ (t && 
 asked-only true a b same = same refl
 asked-only false a b same = refl
 
--- a choice of two lists with the same end
-choose-append : (t : Bool) (a b c rest : List ℕ) → c ≡ b ++ rest → choose t (a ++ rest) c ≡ choose t a b ++ rest
-choose-append true a b c rest same = refl
-choose-append false a b c rest same = same
-
--- a test that counts only inside the map and the mask boundary
-inside-only : (a b on inside z w : Bool) → (on ≡ true → inside ≡ true → z ≡ w) → (a || b || not on || not inside || z) ≡ (a || b || not on || not inside || w)
-inside-only true b on inside z w same = refl
-inside-only false true on inside z w same = refl
-inside-only false false false inside z w same = refl
-inside-only false false true false z w same = refl
-inside-only false false true true z w same = same refl refl
-
 module _ (s : Setup) (memory rest : List ℕ) (pen : Pen) (h : Within s (length memory) pen) where
-  zero-behind : onMap s pen ≡ true → inMask s pen ≡ true → onZero s (memory ++ rest) pen ≡ onZero s memory pen
-  unfolding onZero
-  zero-behind on inside = by (eqb (s .flow .mask) 2) refl
-    where
-      by : (t : Bool) → eqb (s .flow .mask) 2 ≡ t
-          → (t && eqb (pixelAt (memory ++ rest) (s .mask) (columnOf (maskX s pen)) (columnOf (maskY s pen))) 0)
-          ≡ (t && eqb (pixelAt memory (s .mask) (columnOf (maskX s pen)) (columnOf (maskY s pen))) 0)
-      by true e = ap (λ (n : ℕ). eqb n 0) (pixel-append memory (s .mask) _ _ rest (h .mask on inside (eqb-true _ 2 e)))
-      by false e = refl
-
-  left-behind : isLeftOut s (memory ++ rest) pen ≡ isLeftOut s memory pen
-  unfolding isLeftOut
-  left-behind = inside-only (isMove s (pen .drawing)) (isNulled s pen) (onMap s pen) (inMask s pen) _ _ zero-behind
-
-  one-behind : s .flow .pattern ≡ true → isOne s (memory ++ rest) pen ≡ isOne s memory pen
+  one-behind : s .travel .pattern .used ≡ true → isOne (s .travel) (memory ++ rest) pen ≡ isOne (s .travel) memory pen
   unfolding isOne
-  one-behind used = ap (λ (n : ℕ). not (eqb n 0)) (pixel-append memory (s .pattern) _ _ rest (h .pattern used))
+  one-behind used = ap (λ (n : ℕ). not (eqb n 0)) (pixel-append memory (s .travel .pattern .map) _ _ rest (h .pattern used))
 
   -- a fill reads its pattern map
-  module _ (crossing : s .flow .fills ≡ true → s .flow .pattern ≡ true) where
+  module _ (crossing : s .brush .flow .fills ≡ true → s .travel .pattern .used ≡ true) where
     inside-behind : insideAt s (memory ++ rest) pen ≡ insideAt s memory pen
     unfolding insideAt
     inside-behind =
-        asked-only (s .flow .fills) _ _
+        asked-only (s .brush .flow .fills) _ _
         (λ fills. ap (λ (t : Bool). choose t (not (insideOf (pen .drawing))) (insideOf (pen .drawing))) (one-behind (crossing fills)))
 
     pub crossed-append : crossed s (memory ++ rest) pen ≡ crossed s memory pen
@@ -78,34 +51,59 @@ module _ (s : Setup) (memory rest : List ℕ) (pen : Pen) (h : Within s (length 
   foreground-behind : isForeground s (memory ++ rest) pen ≡ isForeground s memory pen
   unfolding isForeground sourcePixel
   foreground-behind =
-      chosen (s .flow .pattern) _ _ _
-      (λ used. ap₂ (choose (s .flow .fills)) (inside-behind (λ fills. used)) (one-behind used))
-      ∙ ap (choose (s .flow .pattern) _)
-      (chosen (s .flow .derived) _ _ true
-      (λ used. ap (λ (n : ℕ). not (eqb n 0)) (pixel-append memory (s .source) _ _ rest (h .source (derived-reads (s .flow) used)))))
+      chosen (s .travel .pattern .used) _ _ _
+      (λ used. ap₂ (choose (s .brush .flow .fills)) (inside-behind (λ fills. used)) (one-behind used))
+      ∙ ap (choose (s .travel .pattern .used) _)
+      (chosen (s .brush .flow .derived) _ _ true
+      (λ used.
+      ap (λ (n : ℕ). not (eqb n 0)) (pixel-append memory (s .travel .source .map) _ _ rest (h .source (derived-reads (s .brush .flow) used)))))
 
   picked-behind : picked s (memory ++ rest) pen ≡ picked s memory pen
   unfolding inkOf picked sourcePixel
   picked-behind =
+      let flow = s .brush .flow in
       rw foreground-behind
-      (chosen (choose (isForeground s memory pen) (s .flow .foreground) (s .flow .background)) _ _ _
-      (λ taken. pixel-append memory (s .source) _ _ rest (h .source (picked-reads (s .flow) (isForeground s memory pen) taken))))
+      (chosen (choose (isForeground s memory pen) (flow .foreground) (flow .background)) _ _ _
+      (λ taken. pixel-append memory (s .travel .source .map) _ _ rest (h .source (picked-reads flow (isForeground s memory pen) taken))))
 
-  destination-behind : onMap s pen ≡ true → inMask s pen ≡ true → destinationPixel s (memory ++ rest) pen ≡ destinationPixel s memory pen
-  unfolding destinationPixel
-  destination-behind on inside = pixel-append memory (s .destination) _ _ rest (h .destination on inside)
+  -- ---- inside the map and the mask boundary
 
-  written-behind : onMap s pen ≡ true → inMask s pen ≡ true → writtenOf s (memory ++ rest) pen ≡ writtenOf s memory pen ++ rest
-  unfolding writtenOf isCompared mixedPixel inkOf
-  written-behind on inside =
-      rw (destination-behind on inside, picked-behind, foreground-behind)
-      (choose-append (isCompared s memory pen) memory _ _ rest (put-append memory (s .destination) _ _ _ rest (h .destination on inside)))
+  module _ (on : onMap (s .brush) pen ≡ true) (inside : inMask (s .brush) pen ≡ true) where
+    zero-behind : onZero (s .brush) (memory ++ rest) pen ≡ onZero (s .brush) memory pen
+    unfolding onZero
+    zero-behind =
+        asked-only (eqb (s .brush .mask .mode) 2) _ _
+        (λ used. ap (λ (n : ℕ). eqb n 0) (pixel-append memory (s .brush .mask .map) _ _ rest (h .mask on inside (eqb-true _ 2 used))))
+
+    destination-behind : destinationPixel (s .brush) (memory ++ rest) pen ≡ destinationPixel (s .brush) memory pen
+    unfolding destinationPixel
+    destination-behind = pixel-append memory (s .brush .destination) _ _ rest (h .destination on inside)
+
+    compared-behind : isCompared (s .brush) (memory ++ rest) pen ≡ isCompared (s .brush) memory pen
+    unfolding isCompared
+    compared-behind = rw destination-behind
+
+    painted-behind : drawnBy Painted s (memory ++ rest) pen ≡ drawnBy Painted s memory pen ++ rest
+    unfolding drawnBy mixedPixel inkOf
+    painted-behind =
+        rw (destination-behind, picked-behind, foreground-behind)
+        (put-append memory (s .brush .destination) _ _ _ rest (h .destination on inside))
+
+  fate-behind : fateOf s (memory ++ rest) pen ≡ fateOf s memory pen
+  unfolding fateOf
+  fate-behind =
+      fated-same (isMove (s .travel) (pen .drawing)) (isNulled s pen) (onMap (s .brush) pen) (inMask (s .brush) pen) _ _
+      (λ on inside. ap₂ judged (zero-behind on inside) (compared-behind on inside))
 
   pub drawn-append : drawn s (memory ++ rest) pen ≡ drawn s memory pen ++ rest
-  drawn-append = by (isLeftOut s memory pen) refl
+  unfolding drawnBy drawn
+  drawn-append = rw fate-behind (by (fateOf s memory pen) refl)
     where
-      by : (t : Bool) → isLeftOut s memory pen ≡ t → drawn s (memory ++ rest) pen ≡ drawn s memory pen ++ rest
-      by true e = rw (drawn-in s (memory ++ rest) pen, drawn-in s memory pen, left-behind, e)
-      by false e =
-          let on = left-in s memory pen e in
-          rw (drawn-in s (memory ++ rest) pen, drawn-in s memory pen, left-behind, e) (written-behind (on .0) (on .1))
+      by : (f : Fate) → fateOf s memory pen ≡ f → drawnBy f s (memory ++ rest) pen ≡ drawnBy f s memory pen ++ rest
+      by Moved e = refl
+      by Nulled e = refl
+      by OutsideMap e = refl
+      by OutsideMask e = refl
+      by MaskZero e = refl
+      by Compared e = refl
+      by Painted e = let on = open-inside s pen (painted-open s memory pen e .0) in painted-behind (on .0) (on .1)

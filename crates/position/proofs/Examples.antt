@@ -15,8 +15,8 @@ use Rattle.parts.specs.declared.drawing.Drawing.{Drawing}
 use Rattle.parts.specs.declared.drawing.Drawing.the-variants.{Line, Codes}
 use Rattle.rules.specs.Starts.{codeAt}
 use Rattle.moves.specs.declared.Turn.the-variants.{Forth}
-use Rattle.moves.specs.declared.Setup.{Setup}
 use Rattle.moves.specs.declared.Pen.{Pen}
+use Rattle.places.specs.declared.Setup.{Setup}
 use Rattle.places.specs.Places.{isWithin, columnOf, placeX, onMap, maskX, maskY, inMask, isMove, isFirst, isLast, nulledBy, isNulled}
 use Rattle.position.specs.Fates.{destinationPixel, onZero, isCompared, fateOf}
 use Rattle.position.specs.Drawn.{sourcePixel, isOne, isForeground, inkOf, picked, mixedPixel, drawnBy, drawn}
@@ -32,31 +32,33 @@ row = record { base = 0; width = 7; height = 0; format = 3 }
 abbrev setup : (derived : Bool) (mask mode condition : ℕ) → Setup
 setup derived mask mode condition =
     record {
-      course = record { x = Forth; y = Forth; steep = false; read = false; inverts = false; bounds = false };
-      flow = record { source = derived; pattern = false; derived = derived; foreground = false; background = false; mask = mask; mode = mode; fills = false };
-      destination = row;
-      source = row;
-      pattern = row;
-      mask = record { base = 0; width = 1; height = 0; format = 0 };
-      foreground = record { mix = 3; colour = 0xAA };
-      background = record { mix = 3; colour = 0xBB };
-      compare = record { condition = condition; value = 0 };
-      planes = 0xFF;
-      origin = record { x = 2; y = 0 };
-      dimensions = record { x = 0; y = 0 };
-      steps = 0x20000000;
-      k1 = pos 0;
-      k2 = pos 0;
-      edge = negsuc 2047;
+      travel = record {
+        course = record { x = Forth; y = Forth; steep = false; read = false; inverts = false; bounds = false };
+        source = record { used = derived; map = row };
+        pattern = record { used = false; map = row };
+        dimensions = record { x = 0; y = 0 };
+        steps = 0x20000000;
+        terms = record { e = pos 0; k1 = pos 0; k2 = pos 0 };
+      };
+      brush = record {
+        destination = row;
+        mask = record { mode = mask; map = record { base = 0; width = 1; height = 0; format = 0 }; origin = record { x = 2; y = 0 } };
+        edge = negsuc 2047;
+        flow = record { derived = derived; foreground = false; background = false; fills = false; mode = mode };
+        inks = record {
+          foreground = record { mix = 3; colour = 0xAA };
+          background = record { mix = 3; colour = 0xBB };
+          compare = record { condition = condition; value = 0 };
+        };
+        depth = record { bits = 8; ones = 0xFF; planes = 0xFF };
+      };
     }
 
 -- at a column of the row, its source in column 0
 abbrev penAt : ℤ → Drawing → Pen
 penAt x drawing =
     record {
-      source = record { x = 0; y = 0 };
-      pattern = record { x = 0; y = 0 };
-      destination = record { x = x; y = pos 0 };
+      pointers = record { source = record { x = 0; y = 0 }; pattern = record { x = 0; y = 0 }; destination = record { x = x; y = pos 0 } };
       e = pos 0;
       drawing = drawing;
     }
@@ -80,17 +82,23 @@ case8 = refl
 
 -- 01, Cases, 11: mask origin X 2, width register 1: columns 2 and 3 only
 pub case11 : drawnIn (setup false 1 0 4) (pos 1 ∷ pos 2 ∷ pos 3 ∷ pos 4 ∷ []) zeros ≡ 0 ∷ 0 ∷ 0xAA ∷ 0xAA ∷ 0 ∷ 0 ∷ 0 ∷ 0 ∷ []
-unfolding field withField bitsOf startOf placeOf shiftOf byteAt pixelAt withPixel tableBit logical gathered merged mixed holdsOf conditionHolds isWithin columnOf placeX onMap maskX maskY inMask isMove isFirst isLast nulledBy isNulled destinationPixel onZero isCompared fateOf sourcePixel isOne isForeground inkOf picked mixedPixel drawnBy drawn
+unfolding field withField bitsOf startOf placeOf shiftOf byteAt pixelAt withPixel tableBit logical gathered merged mixed holdsOf conditionHolds
+    isWithin columnOf placeX onMap maskX maskY inMask isMove isFirst isLast nulledBy isNulled destinationPixel onZero isCompared fateOf sourcePixel
+    isOne isForeground inkOf picked mixedPixel drawnBy drawn
 case11 = refl
 
 -- the map's edges are inside, and the destination is not tiled
 pub edges : drawnIn (setup false 0 0 4) (negsuc 0 ∷ pos 0 ∷ pos 7 ∷ pos 8 ∷ []) zeros ≡ 0xAA ∷ 0 ∷ 0 ∷ 0 ∷ 0 ∷ 0 ∷ 0 ∷ 0xAA ∷ []
-unfolding field withField bitsOf startOf placeOf shiftOf byteAt pixelAt withPixel tableBit logical gathered merged mixed holdsOf conditionHolds isWithin columnOf placeX onMap maskX maskY inMask isMove isFirst isLast nulledBy isNulled destinationPixel onZero isCompared fateOf sourcePixel isOne isForeground inkOf picked mixedPixel drawnBy drawn
+unfolding field withField bitsOf startOf placeOf shiftOf byteAt pixelAt withPixel tableBit logical gathered merged mixed holdsOf conditionHolds
+    isWithin columnOf placeX onMap maskX maskY inMask isMove isFirst isLast nulledBy isNulled destinationPixel onZero isCompared fateOf sourcePixel
+    isOne isForeground inkOf picked mixedPixel drawnBy drawn
 edges = refl
 
 -- condition 0 is always true
 pub compared : drawnIn (setup false 0 0 0) (pos 3 ∷ []) zeros ≡ zeros
-unfolding field withField bitsOf startOf placeOf shiftOf byteAt pixelAt withPixel tableBit logical gathered merged mixed holdsOf conditionHolds isWithin columnOf placeX onMap maskX maskY inMask isMove isFirst isLast nulledBy isNulled destinationPixel onZero isCompared fateOf sourcePixel isOne isForeground inkOf picked mixedPixel drawnBy drawn
+unfolding field withField bitsOf startOf placeOf shiftOf byteAt pixelAt withPixel tableBit logical gathered merged mixed holdsOf conditionHolds
+    isWithin columnOf placeX onMap maskX maskY inMask isMove isFirst isLast nulledBy isNulled destinationPixel onZero isCompared fateOf sourcePixel
+    isOne isForeground inkOf picked mixedPixel drawnBy drawn
 compared = refl
 
 -- ---- what the pattern picks
@@ -98,5 +106,7 @@ compared = refl
 -- code 9 is 1 where the source pixel, here column 0, is not 0
 pub derived : (drawnIn (setup true 0 0 4) (pos 3 ∷ []) zeros ≡ 0 ∷ 0 ∷ 0 ∷ 0xBB ∷ 0 ∷ 0 ∷ 0 ∷ 0 ∷ [])
     × (drawnIn (setup true 0 0 4) (pos 3 ∷ []) (7 ∷ 0 ∷ 0 ∷ 0 ∷ 0 ∷ 0 ∷ 0 ∷ 0 ∷ []) ≡ 7 ∷ 0 ∷ 0 ∷ 0xAA ∷ 0 ∷ 0 ∷ 0 ∷ 0 ∷ [])
-unfolding field withField bitsOf startOf placeOf shiftOf byteAt pixelAt withPixel tableBit logical gathered merged mixed holdsOf conditionHolds isWithin columnOf placeX onMap maskX maskY inMask isMove isFirst isLast nulledBy isNulled destinationPixel onZero isCompared fateOf sourcePixel isOne isForeground inkOf picked mixedPixel drawnBy drawn
+unfolding field withField bitsOf startOf placeOf shiftOf byteAt pixelAt withPixel tableBit logical gathered merged mixed holdsOf conditionHolds
+    isWithin columnOf placeX onMap maskX maskY inMask isMove isFirst isLast nulledBy isNulled destinationPixel onZero isCompared fateOf sourcePixel
+    isOne isForeground inkOf picked mixedPixel drawnBy drawn
 derived = (refl, refl)

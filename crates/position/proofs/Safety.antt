@@ -1,6 +1,6 @@
 -- A safe position keeps within the memory, and so do all after it: a pixel of a map lies before the map's end, and no move takes a used pointer out of its map.
 use mathlib.Core.Path.{_≡_, refl, sym, _∙_}
-use mathlib.Core.Bool.{Bool, true, false, not, _||_, and-eq-true-iff, false≢true}
+use mathlib.Core.Bool.{Bool, true, false, not, _&&_, _||_, and-eq-true-iff, false≢true}
 use mathlib.Core.List.{List}
 use Prim.Native.Nat.{ℕ, _+_, _≤_, _<_}
 use native.Mathlib.Omega.{arith}
@@ -15,17 +15,16 @@ use Rattle.parts.specs.declared.shapes.Point.{Point}
 use Rattle.parts.specs.declared.drawing.Drawing.{Drawing}
 use Rattle.rules.specs.Maps.{endHolds, isInside}
 use Rattle.rules.proofs.PointerLaws.{inside-x, inside-y}
-use Rattle.moves.specs.declared.Flow.{Flow}
-use Rattle.moves.specs.declared.Setup.{Setup}
 use Rattle.moves.specs.declared.Pen.{Pen}
 use Rattle.moves.specs.Moves.{penWith, moved}
 use Rattle.moves.specs.Inner.{pointersInside}
 use Rattle.moves.proofs.Kept.{source-in, pattern-in, pointers-moved}
-use Rattle.places.specs.Places.{isWithin, onMap, maskX, maskY, inMask, isMove, isNulled}
-use Rattle.position.specs.Fates.{onZero}
-use Rattle.position.specs.Drawn.{sourcePixel, crossed}
+use Rattle.places.specs.declared.Flow.{Flow}
+use Rattle.places.specs.declared.Setup.{Setup}
+use Rattle.places.specs.Places.{isWithin, onMap, maskX, maskY, inMask}
+use Rattle.position.specs.Drawn.{sourcePixel, insideAt, crossed}
 use Rattle.position.specs.Within.{readsSource, Within}
-use Rattle.position.specs.Inner.{isLeftOut, sourceRead, Safe}
+use Rattle.position.specs.Inner.{patternRead, sourceRead, Safe}
 use Rattle.places.proofs.Columns.{within-column}
 use Rattle.position.proofs.Writing.{on-map}
 
@@ -52,32 +51,29 @@ picked-reads flow foreground = by foreground (flow .foreground) (flow .backgroun
     by false false false d e = absurd (false≢true e)
 
 -- so what is read for it is the source pixel where that is asked for
-pub derived-read : (s : Setup) (memory : List ℕ) (pen : Pen) → s .flow .derived ≡ true → sourceRead s memory pen ≡ sourcePixel s memory pen
+pub derived-read : (s : Setup) (memory : List ℕ) (pen : Pen) → s .brush .flow .derived ≡ true → sourceRead s memory pen ≡ sourcePixel (s .travel) memory pen
 unfolding sourceRead
-derived-read s memory pen e = choose-true _ 0 (derived-reads (s .flow) e)
+derived-read s memory pen e = choose-true _ 0 (derived-reads (s .brush .flow) e)
 
 pub picked-read : (s : Setup) (memory : List ℕ) (pen : Pen) (foreground : Bool) (colour : ℕ)
-    → choose (choose foreground (s .flow .foreground) (s .flow .background)) (sourceRead s memory pen) colour
-    ≡ choose (choose foreground (s .flow .foreground) (s .flow .background)) (sourcePixel s memory pen) colour
+    → choose (choose foreground (s .brush .flow .foreground) (s .brush .flow .background)) (sourceRead s memory pen) colour
+    ≡ choose (choose foreground (s .brush .flow .foreground) (s .brush .flow .background)) (sourcePixel (s .travel) memory pen) colour
 unfolding sourceRead
 picked-read s memory pen foreground colour =
-    by-test (λ (n : ℕ). n ≡ choose (choose foreground (s .flow .foreground) (s .flow .background)) (sourcePixel s memory pen) colour)
-    (choose foreground (s .flow .foreground) (s .flow .background))
-    (λ e. choose-true _ 0 (picked-reads (s .flow) foreground e) ∙ sym (choose-true _ colour e))
+    by-test (λ (n : ℕ). n ≡ choose (choose foreground (s .brush .flow .foreground) (s .brush .flow .background)) (sourcePixel (s .travel) memory pen) colour)
+    (choose foreground (s .brush .flow .foreground) (s .brush .flow .background))
+    (λ e. choose-true _ 0 (picked-reads (s .brush .flow) foreground e) ∙ sym (choose-true _ colour e))
     (λ e. sym (choose-false _ colour e))
 
--- a position that is not left out is inside its map and the mask boundary
-pub left-in : (s : Setup) (memory : List ℕ) (pen : Pen) → isLeftOut s memory pen ≡ false → (onMap s pen ≡ true) × (inMask s pen ≡ true)
-unfolding isLeftOut
-left-in s memory pen =
-    by (isMove s (pen .drawing)) (isNulled s pen) (onMap s pen) (inMask s pen) (onZero s memory pen)
+-- what is read of the pattern is a fill's bit, as a fill uses a pattern map
+pub inside-read : (s : Setup) (memory : List ℕ) (pen : Pen) → (s .brush .flow .fills ≡ true → s .travel .pattern .used ≡ true)
+    → (s .brush .flow .fills && patternRead s memory pen) ≡ insideAt s memory pen
+unfolding patternRead insideAt
+inside-read s memory pen crossing = by (s .brush .flow .fills) (s .travel .pattern .used) _ _ crossing
   where
-    by : (a b on inside z : Bool) → (a || b || not on || not inside || z) ≡ false → (on ≡ true) × (inside ≡ true)
-    by true b on inside z e = absurd (false≢true (sym e))
-    by false true on inside z e = absurd (false≢true (sym e))
-    by false false false inside z e = absurd (false≢true (sym e))
-    by false false true false z e = absurd (false≢true (sym e))
-    by false false true true z e = (refl, refl)
+    by : (fills used turned one : Bool) → (fills ≡ true → used ≡ true) → (fills && choose used (choose fills (fills && turned) one) true) ≡ (fills && turned)
+    by false used turned one h = refl
+    by true used turned one h = rw (h refl)
 
 -- ---- a safe position
 
@@ -96,25 +92,32 @@ masked mode b e h = rw e at h
 
 module _ (s : Setup) (size : ℕ) (pen : Pen) where
   -- in mode 10 the mask pixel inside the boundary is one of its map
-  mask-inside : inMask s pen ≡ true → s .flow .mask ≡ 2
-      → (isWithin (s .mask .width) (maskX s pen) ≡ true) × (isWithin (s .mask .height) (maskY s pen) ≡ true)
+  mask-inside : inMask (s .brush) pen ≡ true → s .brush .mask .mode ≡ 2
+      → (isWithin (s .brush .mask .map .width) (maskX (s .brush) pen) ≡ true) × (isWithin (s .brush .mask .map .height) (maskY (s .brush) pen) ≡ true)
   unfolding isWithin maskX maskY inMask
-  mask-inside inside used = and-eq-true-iff (isWithin (s .mask .width) (maskX s pen)) _ .0 (masked (s .flow .mask) _ used inside)
+  mask-inside inside used = and-eq-true-iff (isWithin (s .brush .mask .map .width) (maskX (s .brush) pen)) _ .0 (masked (s .brush .mask .mode) _ used inside)
 
   pub safe-within : Safe s size pen → Within s size pen
   safe-within h =
       record {
-        pattern = λ used. inside-within size (s .pattern) (pen .pattern) (h .pattern used) (pattern-in s pen (h .pointers) used);
-        source = λ read. let used = h .used read in inside-within size (s .source) (pen .source) (h .source used) (source-in s pen (h .pointers) used);
+        pattern =
+            λ used.
+            inside-within size (s .travel .pattern .map) (pen .pointers .pattern) (h .pattern used) (pattern-in (s .travel) pen (h .pointers) used);
+        source =
+            λ read.
+            let used = h .used read in
+            inside-within size (s .travel .source .map) (pen .pointers .source) (h .source used) (source-in (s .travel) pen (h .pointers) used);
         mask =
             λ on inside used.
             let m = mask-inside inside used in
-            held-within size (s .mask) _ _ (within-column _ (maskX s pen) (m .0)) (within-column _ (maskY s pen) (m .1)) (h .mask used);
-        destination = λ on inside. let m = on-map s pen on in held-within size (s .destination) _ _ (m .0) (m .1) (h .destination);
+            let across = within-column _ (maskX (s .brush) pen) (m .0) in
+            let down = within-column _ (maskY (s .brush) pen) (m .1) in
+            held-within size (s .brush .mask .map) _ _ across down (h .mask used);
+        destination = λ on inside. let m = on-map (s .brush) pen on in held-within size (s .brush .destination) _ _ (m .0) (m .1) (h .destination);
       }
 
   -- of the pen it asks only where the used pointers lie
-  safe-at : (q : Pen) → pointersInside s q ≡ true → Safe s size pen → Safe s size q
+  safe-at : (q : Pen) → pointersInside (s .travel) q ≡ true → Safe s size pen → Safe s size q
   safe-at q inside h =
       record {
         destination = h .destination;
@@ -123,6 +126,7 @@ module _ (s : Setup) (size : ℕ) (pen : Pen) where
         pattern = h .pattern;
         used = h .used;
         crossing = h .crossing;
+        depth = h .depth;
         pointers = inside;
       }
 
@@ -131,8 +135,8 @@ module _ (s : Setup) (size : ℕ) (pen : Pen) where
   unfolding penWith
   safe-with d h = safe-at (penWith d pen) (h .pointers) h
 
-  pub safe-moved : Safe s size pen → Safe s size (moved s pen)
-  safe-moved h = safe-at (moved s pen) (pointers-moved s pen (h .pointers)) h
+  pub safe-moved : Safe s size pen → Safe s size (moved (s .travel) pen)
+  safe-moved h = safe-at (moved (s .travel) pen) (pointers-moved (s .travel) pen (h .pointers)) h
 
 -- the pen at a position is safe where the pen before it is
 pub safe-crossed : (s : Setup) (size : ℕ) (memory : List ℕ) (pen : Pen) → Safe s size pen → Safe s size (crossed s memory pen)

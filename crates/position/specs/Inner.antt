@@ -1,41 +1,60 @@
 -- How the code asks it: what functions inside promise and ask of each other, proved from the rules; nothing here has to be believed.
 use mathlib.Core.Path.{_≡_}
-use mathlib.Core.Bool.{Bool, true, not, _||_}
+use mathlib.Core.Bool.{Bool, true, false, not}
 use mathlib.Core.List.{List}
 use Prim.Native.Nat.{ℕ}
 use Rattle.numbers.specs.Choose.{choose}
-use Rattle.pixels.specs.Pixels.{withPixel}
+use Rattle.pixels.specs.Inner.{cellAt}
+use Rattle.mixes.specs.Inner.{Cut}
 use Rattle.rules.specs.Maps.{endHolds}
-use Rattle.moves.specs.declared.Setup.{Setup}
 use Rattle.moves.specs.declared.Pen.{Pen}
 use Rattle.moves.specs.Inner.{pointersInside}
+use Rattle.places.specs.declared.Setup.{Setup}
 use Rattle.places.specs.Places.{columnOf, placeX, onMap, inMask, isMove, isNulled}
-use Rattle.position.specs.Fates.{onZero, isCompared}
-use Rattle.position.specs.Drawn.{sourcePixel, mixedPixel}
+use Rattle.position.specs.declared.Fate.{Fate}
+use Rattle.position.specs.declared.Fate.the-variants.{Moved, Nulled, OutsideMap, OutsideMask, Painted}
+use Rattle.position.specs.declared.Sight.{Sight}
+use Rattle.position.specs.Fates.{destinationPixel, onZero}
+use Rattle.position.specs.Drawn.{sourcePixel, isOne, insideAt}
 use Rattle.position.specs.Within.{readsSource}
 
--- nothing is written, whatever the destination pixel is: every fate but the compare condition's
-unfoldable pub isLeftOut : Setup → List ℕ → Pen → Bool
-isLeftOut s memory pen =
-    isMove s (pen .drawing) || isNulled s pen || not (onMap s pen) || not (inMask s pen) || onZero s memory pen
-
--- memory with the mixed pixel, unless the compare condition is true of the destination
-unfoldable pub writtenOf : Setup → List ℕ → Pen → List ℕ
-writtenOf s memory pen =
-    choose (isCompared s memory pen) memory
-    (withPixel memory (s .destination) (columnOf (placeX s pen)) (columnOf (pen .destination .y)) (mixedPixel s memory pen))
+-- the pattern as it is read: its map's pixel, in a fill whether that is inside then, and 1 where the map is not used
+unfoldable pub patternRead : Setup → List ℕ → Pen → Bool
+patternRead s memory pen =
+    choose (s .travel .pattern .used) (choose (s .brush .flow .fills) (insideAt s memory pen) (isOne (s .travel) memory pen)) true
 
 -- the source pixel as it is read, 0 where it is not
 unfoldable pub sourceRead : Setup → List ℕ → Pen → ℕ
-sourceRead s memory pen = choose (readsSource (s .flow)) (sourcePixel s memory pen) 0
+sourceRead s memory pen = choose (readsSource (s .brush .flow)) (sourcePixel (s .travel) memory pen) 0
+
+-- what becomes of a position as far as no memory tells
+unfoldable pub foreseenOf : Setup → Pen → Fate
+foreseenOf s pen =
+    choose (isMove (s .travel) (pen .drawing)) Moved
+    (choose (isNulled s pen) Nulled
+    (choose (not (onMap (s .brush) pen)) OutsideMap
+    (choose (not (inMask (s .brush) pen)) OutsideMask
+    Painted)))
+
+-- this is what a position finds in a memory: of mask and destination where it may be painted, and of the destination where the mask lets it
+pub record Seen (s : Setup) (memory : List ℕ) (pen : Pen) (sight : Sight) : Type 0 where
+  pub pattern : sight .one ≡ patternRead s memory pen
+  pub source : sight .source ≡ sourceRead s memory pen
+  pub foreseen : sight .foreseen ≡ foreseenOf s pen
+  pub zero : foreseenOf s pen ≡ Painted → sight .zero ≡ onZero (s .brush) memory pen
+  pub cell : foreseenOf s pen ≡ Painted → onZero (s .brush) memory pen ≡ false
+      → sight .cell ≡ cellAt memory (s .brush .destination) (columnOf (placeX (s .brush) pen)) (columnOf (pen .pointers .destination .y))
+  pub pixel : foreseenOf s pen ≡ Painted → onZero (s .brush) memory pen ≡ false → sight .pixel ≡ destinationPixel (s .brush) memory pen
 
 -- every used map ends within a memory of this size, and used source and pattern pointers lie in theirs: what every move keeps
 pub record Safe (s : Setup) (size : ℕ) (pen : Pen) : Type 0 where
-  pub destination : endHolds size (s .destination) ≡ true
-  pub mask : s .flow .mask ≡ 2 → endHolds size (s .mask) ≡ true
-  pub source : s .flow .source ≡ true → endHolds size (s .source) ≡ true
-  pub pattern : s .flow .pattern ≡ true → endHolds size (s .pattern) ≡ true
+  pub destination : endHolds size (s .brush .destination) ≡ true
+  pub mask : s .brush .mask .mode ≡ 2 → endHolds size (s .brush .mask .map) ≡ true
+  pub source : s .travel .source .used ≡ true → endHolds size (s .travel .source .map) ≡ true
+  pub pattern : s .travel .pattern .used ≡ true → endHolds size (s .travel .pattern .map) ≡ true
   -- the source is read only where its map is used, and a fill uses a pattern map
-  pub used : readsSource (s .flow) ≡ true → s .flow .source ≡ true
-  pub crossing : s .flow .fills ≡ true → s .flow .pattern ≡ true
-  pub pointers : pointersInside s pen ≡ true
+  pub used : readsSource (s .brush .flow) ≡ true → s .travel .source .used ≡ true
+  pub crossing : s .brush .flow .fills ≡ true → s .travel .pattern .used ≡ true
+  -- pixels have at most 8 bits
+  pub depth : Cut (s .brush .depth)
+  pub pointers : pointersInside (s .travel) pen ≡ true

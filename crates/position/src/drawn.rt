@@ -1,3 +1,11 @@
+// A position is look, judge, write.
+
+ghost use mathlib.Core.Path.{_≡_};
+ghost use mathlib.Core.Bool.{true};
+ghost use lib.ListN.{length};
+ghost use Rattle.mixes.specs.Inner.{Cut};
+ghost use Rattle.position.specs.Drawn.{insideAt, drawn};
+ghost use Rattle.position.specs.Within.{Within};
 use crate::Fate;
 use crate::judge::judge;
 use crate::look::look;
@@ -7,11 +15,17 @@ use places::Setup;
 
 // Draws one position, all of whose pixels lie in the memory: the mix where it is painted, and nothing otherwise. It answers whether
 // a fill is inside there, painted or not.
-pub fn draw(setup: Setup, memory: &mut [u8], code: u8, pen: Pen) -> bool {
-    let sight = look(setup, memory, code, pen);
-    let fate = judge(setup.brush, sight);
+pub fn draw(setup: Setup, memory: &mut [u8], pen: Pen) -> bool
+    requires { ⌜ (setup .brush .flow .fills ≡ true → setup .travel .pattern .used ≡ true)
+        × Cut (setup .brush .depth)
+        × Within setup (length (now memory)) pen ⌝ }
+    ensures { λ r. ⌜ (r ≡ insideAt setup (now (memory .entry)) pen) × (now (memory .exit) ≡ drawn setup (now (memory .entry)) pen) ⌝ }
+{
+    let sight = look(setup, memory, pen);
+    let inside = setup.brush.flow.fills & sight.one;
+    let fate = judge(setup, sight);
     if let Fate::Painted = fate {
-        write(setup.brush, memory, sight);
+        write(setup, memory, sight);
     }
-    setup.brush.flow.fills & sight.foreground
+    inside
 }

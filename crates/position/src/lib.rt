@@ -17,13 +17,13 @@ pub enum Fate {
     Painted,
 }
 
-// What a position finds: whether the pattern is 1, and the source pixel; what becomes of it as far as no memory tells; and
-// only where it may be painted whether the mask pixel is 0, the destination's cell, and its pixel.
-pub struct Sight {
-    pub foreground: bool,
-    pub source: u32,
-    pub foreseen: Fate,
-    pub zero: bool,
-    pub cell: Cell,
-    pub pixel: u32,
+// What a position finds: whether the pattern's pixel is 1, and in a fill whether that is inside then; the source pixel; what becomes
+// of it as far as no memory tells; and where it may be painted whether the mask pixel is 0, and if not, the destination's cell and pixel.
+struct Sight {
+    one: bool,
+    source: u32,
+    foreseen: Fate,
+    zero: bool,
+    cell: Cell,
+    pixel: u32,
 }

@@ -1,7 +1,20 @@
-// All that a position reads, in the order of the rules: pattern, source, mask, destination.
+// All that a position reads, in this order: pattern, source, mask, destination.
+
 ghost use mathlib.Core.Path.{_≡_};
+ghost use mathlib.Core.Bool.{true, not};
+ghost use lib.ListN.{length};
+ghost use Rattle.numbers.specs.Choose.{choose};
+ghost use Rattle.pixels.specs.Inner.{cellAt};
+ghost use Rattle.parts.specs.Drawings.{insideOf};
+ghost use Rattle.places.specs.Places.{columnOf, placeX, onMap, inMask};
+ghost use Rattle.position.specs.declared.Fate.the-variants.{Painted};
+ghost use Rattle.position.specs.Fates as fates;
+ghost use Rattle.position.specs.Within as within;
+ghost use Rattle.position.specs.Within.{Within};
+ghost use Rattle.position.specs.Inner.{patternRead, sourceRead, foreseenOf, Seen};
 use crate::Fate;
 use crate::Sight;
+use crate::judge::foresee;
 use moves::Pen;
 use parts::drawing::Drawing;
 use parts::drawing::is_inside;
@@ -12,42 +25,51 @@ use pixels::value;
 use places::Brush;
 use places::Flow;
 use places::Setup;
-use places::modes::is_move;
-use places::modes::is_nulled;
 use places::places::destination_of;
-use places::places::in_mask;
 use places::places::mask_of;
-use places::places::on_map;
 
 // Whether a fill is inside after a pattern pixel, which turns it where it is 1.
-fn is_inside_at(one: bool, drawing: Drawing) -> bool {
+fn crosses(one: bool, drawing: Drawing) -> bool
+    ensures { λ r. ⌜ r ≡ choose one (not (insideOf drawing)) (insideOf drawing) ⌝ }
+{
     let inside = is_inside(drawing);
     if one { !inside } else { inside }
 }
 
-// Whether the pattern map's pixel is 1, and in a fill whether that is inside then.
-fn is_one(setup: Setup, memory: &[u8], pen: Pen) -> bool {
-    let one = get(
+// Whether the pattern map's pixel is 1, and in a fill whether that is inside then; true where the map is not used.
+fn pattern_read(setup: Setup, memory: &[u8], pen: Pen) -> bool
+    requires { ⌜ Within setup (length (now memory)) pen ⌝ }
+    ensures { λ r. ⌜ r ≡ patternRead setup (now (memory .entry)) pen ⌝ }
+{
+    if !setup.travel.pattern.used {
+        return true;
+    }
+    let pixel = get(
         memory,
         setup.travel.pattern.map,
         pen.pointers.pattern.x,
         pen.pointers.pattern.y,
-    )
-        != 0;
+    );
+    let drawing = pen.drawing;
     if setup.brush.flow.fills {
-        let drawing = pen.drawing;
-        return is_inside_at(one, drawing);
+        crosses(pixel != 0, drawing)
+    } else {
+        pixel != 0
     }
-    one
 }
 
 // Whether the source pixel is read: a source field is 10, or the pattern is made from the source.
-fn reads_source(flow: Flow) -> bool {
+fn reads_source(flow: Flow) -> bool
+    ensures { λ r. ⌜ r ≡ within.readsSource flow ⌝ }
+{
     flow.foreground | flow.background | flow.derived
 }
 
 // The source pixel, and 0 where it is not read.
-fn source_pixel(setup: Setup, memory: &[u8], pen: Pen) -> u32 {
+fn source_read(setup: Setup, memory: &[u8], pen: Pen) -> u32
+    requires { ⌜ Within setup (length (now memory)) pen ⌝ }
+    ensures { λ r. ⌜ r ≡ sourceRead setup (now (memory .entry)) pen ⌝ }
+{
     if reads_source(setup.brush.flow) {
         get(
             memory,
@@ -61,77 +83,68 @@ fn source_pixel(setup: Setup, memory: &[u8], pen: Pen) -> u32 {
 }
 
 // Whether the mask pixel is 0, where its map is used; the destination is inside its map and the mask boundary.
-fn is_on_zero(brush: Brush, memory: &[u8], pen: Pen) -> bool {
-    if brush.mask.mode != 2 {
+fn is_on_zero(setup: Setup, memory: &[u8], pen: Pen) -> bool
+    requires { ⌜ Within setup (length (now memory)) pen × (onMap (setup .brush) pen ≡ true) × (inMask (setup .brush) pen ≡ true) ⌝ }
+    ensures { λ r. ⌜ r ≡ fates.onZero (setup .brush) (now (memory .entry)) pen ⌝ }
+{
+    if setup.brush.mask.mode != 2 {
         return false;
     }
-    let at = mask_of(brush, pen);
-    get(memory, brush.mask.map, at.x, at.y) == 0
+    let at = mask_of(setup.brush, pen);
+    get(memory, setup.brush.mask.map, at.x, at.y) == 0
 }
 
-// Whether the pattern is 1
-fn is_foreground(setup: Setup, one: bool, source: u32) -> bool {
-    if setup.travel.pattern.used {
-        return one;
-    }
-    if setup.brush.flow.derived {
-        return source != 0;
-    }
-    true
+// The destination's cell; the destination is inside its map and the mask boundary.
+fn destination_cell(setup: Setup, memory: &[u8], pen: Pen) -> Cell
+    requires { ⌜ Within setup (length (now memory)) pen × (onMap (setup .brush) pen ≡ true) × (inMask (setup .brush) pen ≡ true) ⌝ }
+    ensures { λ r.
+        ⌜ r ≡ cellAt (now (memory .entry)) (setup .brush .destination) (columnOf (placeX (setup .brush) pen)) (columnOf (pen .pointers .destination .y)) ⌝ }
+{
+    let at = destination_of(setup.brush, pen);
+    find(memory, setup.brush.destination, at.x, at.y)
 }
 
-// What becomes of a position as far as no memory tells.
-fn foresee(setup: Setup, code: u8, pen: Pen) -> Fate {
-    let drawing = pen.drawing;
-    if is_move(code, drawing) {
-        return Fate::Moved;
-    }
-    if is_nulled(setup, code, pen.e, drawing) {
-        return Fate::Nulled;
-    }
-    if !on_map(setup.brush, pen) {
-        return Fate::OutsideMap;
-    }
-    if !in_mask(setup.brush, pen) {
-        return Fate::OutsideMask;
-    }
-    Fate::Painted
-}
-
-pub(crate) fn look(setup: Setup, memory: &[u8], code: u8, pen: Pen) -> Sight {
-    let one = if setup.travel.pattern.used {
-        is_one(setup, memory, pen)
-    } else {
-        true
-    };
-    let source = source_pixel(setup, memory, pen);
-    let foreground = is_foreground(setup, one, source);
-    let foreseen = foresee(setup, code, pen);
-    if let Fate::Painted = foreseen {
-        let zero = is_on_zero(setup.brush, memory, pen);
-        let at = destination_of(setup.brush, pen);
-        let cell = find(memory, setup.brush.destination, at.x, at.y);
-        return Sight {
-            foreground,
-            source,
-            foreseen,
-            zero,
-            cell,
-            pixel: value(cell),
-        };
-    }
-    let blank = Cell {
+// A sight of no destination.
+fn blank(one: bool, source: u32, foreseen: Fate, zero: bool) -> Sight
+    ensures { λ r. ⌜ (r .one ≡ one) × (r .source ≡ source) × (r .foreseen ≡ foreseen) × (r .zero ≡ zero) ⌝ }
+{
+    let cell = Cell {
         at: 0,
         byte: 0,
         shift: 0,
         bits: 0,
     };
     Sight {
-        foreground,
+        one,
         source,
         foreseen,
-        zero: false,
-        cell: blank,
+        zero,
+        cell,
         pixel: 0,
     }
+}
+
+// What a position finds, all of whose pixels lie in the memory.
+pub(crate) fn look(setup: Setup, memory: &[u8], pen: Pen) -> Sight
+    requires { ⌜ Within setup (length (now memory)) pen ⌝ }
+    ensures { λ r. ⌜ Seen setup (now (memory .entry)) pen r ⌝ }
+{
+    let one = pattern_read(setup, memory, pen);
+    let source = source_read(setup, memory, pen);
+    let foreseen = foresee(setup, pen);
+    if let Fate::Painted = foreseen {
+        if is_on_zero(setup, memory, pen) {
+            return blank(one, source, foreseen, true);
+        }
+        let cell = destination_cell(setup, memory, pen);
+        return Sight {
+            one,
+            source,
+            foreseen,
+            zero: false,
+            cell,
+            pixel: value(cell),
+        };
+    }
+    blank(one, source, foreseen, false)
 }

@@ -1,14 +1,41 @@
-// What a position writes, from what it found.
+// What a painted position writes, from what it found.
+
+ghost use mathlib.Core.Path.{_≡_};
+ghost use mathlib.Core.List.{List};
+ghost use Prim.Native.Nat.{ℕ, _+_, _≤_, _<_};
+ghost use lib.ListN.{length};
+ghost use Rattle.numbers.specs.Choose.{choose};
+ghost use Rattle.mixes.specs.Inner.{Cut};
+ghost use Rattle.moves.specs.declared.Pen.{Pen};
+ghost use Rattle.position.specs.declared.Fate.the-variants.{Painted};
+ghost use Rattle.position.specs.Fates.{fateOf, destinationPixel};
+ghost use Rattle.position.specs.Drawn.{isForeground, mixedPixel, drawnBy};
+ghost use Rattle.position.specs.Inner.{Seen};
 use crate::Sight;
 use mixes::mix;
 use parts::shapes::Ink;
 use pixels::store;
-use places::Brush;
 use places::Flow;
 use places::Inks;
+use places::Setup;
+
+// Whether the pattern is 1: its map's pixel, in a fill where that is inside, the source pixel where it is derived, and otherwise always.
+fn is_foreground(setup: Setup, sight: Sight) -> bool
+    ensures { λ r. ⌜ ((memory : List ℕ) (pen : Pen) → Seen setup memory pen sight → r ≡ isForeground setup memory pen) ⌝ }
+{
+    if setup.travel.pattern.used {
+        return sight.one;
+    }
+    if setup.brush.flow.derived {
+        return sight.source != 0;
+    }
+    true
+}
 
 // The mix and the colour that the pattern picks.
-fn ink_of(inks: Inks, foreground: bool) -> Ink {
+fn ink_of(inks: Inks, foreground: bool) -> Ink
+    ensures { λ r. ⌜ r ≡ choose foreground (inks .foreground) (inks .background) ⌝ }
+{
     if foreground {
         inks.foreground
     } else {
@@ -17,7 +44,9 @@ fn ink_of(inks: Inks, foreground: bool) -> Ink {
 }
 
 // Whether the source that the pattern picks is the source pixel.
-fn takes_source(flow: Flow, foreground: bool) -> bool {
+fn takes_source(flow: Flow, foreground: bool) -> bool
+    ensures { λ r. ⌜ r ≡ choose foreground (flow .foreground) (flow .background) ⌝ }
+{
     if foreground {
         flow.foreground
     } else {
@@ -26,7 +55,9 @@ fn takes_source(flow: Flow, foreground: bool) -> bool {
 }
 
 // The source pixel or the colour, as the pattern picks.
-fn picked(flow: Flow, foreground: bool, source: u32, colour: u32) -> u32 {
+fn picked(flow: Flow, foreground: bool, source: u32, colour: u32) -> u32
+    ensures { λ r. ⌜ r ≡ choose (choose foreground (flow .foreground) (flow .background)) source colour ⌝ }
+{
     if takes_source(flow, foreground) {
         source
     } else {
@@ -34,20 +65,31 @@ fn picked(flow: Flow, foreground: bool, source: u32, colour: u32) -> u32 {
     }
 }
 
-// A destination pixel after the mix, under the plane mask.
-fn mixed_pixel(brush: Brush, sight: Sight) -> u32 {
-    let ink = ink_of(brush.inks, sight.foreground);
+// The destination pixel after the mix, under the plane mask.
+fn mixed_pixel(setup: Setup, sight: Sight) -> u32
+    requires { ⌜ Cut (setup .brush .depth) ⌝ }
+    ensures { λ r.
+        ⌜ ((memory : List ℕ) (pen : Pen) → Seen setup memory pen sight → sight .pixel ≡ destinationPixel (setup .brush) memory pen
+        → r ≡ mixedPixel setup memory pen) ⌝ }
+{
+    let foreground = is_foreground(setup, sight);
+    let ink = ink_of(setup.brush.inks, foreground);
     mix(
-        brush.depth,
+        setup.brush.depth,
         ink.mix,
-        picked(brush.flow, sight.foreground, sight.source, ink.colour),
+        picked(setup.brush.flow, foreground, sight.source, ink.colour),
         sight.pixel,
     )
 }
 
-// Stores the mix in the destination's cell.
-pub(crate) fn write(brush: Brush, memory: &mut [u8], sight: Sight) {
-    let new = mixed_pixel(brush, sight);
+// Stores the mix in the destination's cell, which lies in the memory.
+pub(crate) fn write(setup: Setup, memory: &mut [u8], sight: Sight)
+    requires { ⌜ Cut (setup .brush .depth) × (sight .cell .shift + sight .cell .bits ≤ 8) × (sight .cell .at < length (now memory)) ⌝ }
+    ensures { λ _.
+        ⌜ ((pen : Pen) → Seen setup (now (memory .entry)) pen sight → fateOf setup (now (memory .entry)) pen ≡ Painted
+        → now (memory .exit) ≡ drawnBy Painted setup (now (memory .entry)) pen) ⌝ }
+{
+    let new = mixed_pixel(setup, sight);
     let cell = sight.cell;
     store(memory, cell, new);
 }

@@ -8,7 +8,7 @@ use native.Mathlib.Omega.{arith}
 use lib.Dec.{ltb}
 use borrow.Author.Tests.{ltb-false}
 use Rattle.parts.specs.Drawings.{unfinished}
-use Rattle.moves.specs.declared.Setup.{Setup}
+use Rattle.places.specs.declared.Setup.{Setup}
 use Rattle.runs.specs.Runs.{Run, positioned, stepped, after}
 
 -- ---- one position

@@ -1,4 +1,4 @@
--- What a run of any length does to memory and to the positions left, and that one run is two in a row: what each step keeps, the run keeps, by induction over its positions.
+-- What a run does to memory and to the positions left, and that one run is two in a row: what each step keeps, the run keeps, by induction.
 use mathlib.Core.Path.{_≡_, refl, sym, ap, _∙_}
 use mathlib.Core.Bool.{Bool, true, false, false≢true}
 use mathlib.Core.List.{List, _++_}
@@ -15,10 +15,11 @@ use Rattle.rules.specs.Operations.{isFill}
 use Rattle.rules.specs.Going.{countersHold}
 use Rattle.rules.specs.Totals.{leftOf}
 use Rattle.rules.proofs.TotalLaws.{left-idle, left-some}
-use Rattle.moves.specs.declared.Setup.{Setup}
+use Rattle.places.specs.declared.Setup.{Setup}
 use Rattle.moves.specs.declared.Pen.{Pen}
-use Rattle.moves.specs.Decoded.{courseOf, flowOf}
-use Rattle.moves.specs.declared.Flow.{Flow}
+use Rattle.moves.specs.Decoded.{courseOf}
+use Rattle.places.specs.Decoded.{flowOf}
+use Rattle.places.specs.declared.Flow.{Flow}
 use Rattle.moves.proofs.Counters.{Counted, moved-counted}
 use Rattle.moves.specs.Moves.{moved}
 use Rattle.position.specs.Drawn.{insideAt, crossed}
@@ -60,7 +61,8 @@ length-after s n t =
     kept-after s (λ u. length (u .memory) ≡ length (t .memory)) (λ u going h. length-drawn s (u .memory) (u .pen) ∙ h) n t refl
 
 -- a byte of no pixel of the destination map stays
-pub bytes-after : (s : Setup) (j : ℕ) → ((x y : ℕ) → x ≤ s .destination .width → y ≤ s .destination .height → j ≡ placeOf (s .destination) x y → ⊥)
+pub bytes-after : (s : Setup) (j : ℕ) → let map = s .brush .destination in
+    ((x y : ℕ) → x ≤ map .width → y ≤ map .height → j ≡ placeOf map x y → ⊥)
     → (n : ℕ) (t : Run) → getD (after s n t .memory) j 0 ≡ getD (t .memory) j 0
 unfolding positioned
 bytes-after s j ne n t =
@@ -69,7 +71,9 @@ bytes-after s j ne n t =
 -- every position of a safe drawing is safe
 pub safe-after : (s : Setup) (size n : ℕ) (t : Run) → Safe s size (t .pen) → Safe s size (after s n t .pen)
 unfolding positioned
-safe-after s size n t h = kept-after s (λ u. Safe s size (u .pen)) (λ u going held. safe-moved s size (crossed s (u .memory) (u .pen)) (safe-crossed s size (u .memory) (u .pen) held)) n t h
+safe-after s size n t h =
+    kept-after s (λ u. Safe s size (u .pen))
+    (λ u going held. safe-moved s size (crossed s (u .memory) (u .pen)) (safe-crossed s size (u .memory) (u .pen) held)) n t h
 
 -- a run with more bytes behind its memory
 unfoldable pub before : List ℕ → Run → Run
@@ -89,7 +93,7 @@ behind-after s rest (suc n) t safe =
     stepped-on s (before rest u) going
     ∙ (λ i.
     record {
-      pen = moved s (crossed-append s (u .memory) rest (u .pen) inside (held .crossing) i);
+      pen = moved (s .travel) (crossed-append s (u .memory) rest (u .pen) inside (held .crossing) i);
       memory = drawn-append s (u .memory) rest (u .pen) inside i;
       done = u .done + 1;
     })))
@@ -137,8 +141,8 @@ run-add s pen memory a b =
 
 -- ---- the positions left
 
-idle-left : (s : Setup) (d : Drawing) → unfinished d ≡ false → leftOf (s .dimensions) (s .steps) d ≡ 0
-idle-left s (Nothing stopped) e = left-idle (s .dimensions) (s .steps) stopped
+idle-left : (s : Setup) (d : Drawing) → unfinished d ≡ false → leftOf (s .travel .dimensions) (s .travel .steps) d ≡ 0
+idle-left s (Nothing stopped) e = left-idle (s .travel .dimensions) (s .travel .steps) stopped
 idle-left s (Line rose done) e = absurd (false≢true (sym e))
 idle-left s (Codes count code done) e = absurd (false≢true (sym e))
 idle-left s (Block inside column row) e = absurd (false≢true (sym e))
@@ -176,23 +180,24 @@ after-done s pen memory (suc n) =
     (λ idle. absurd (false≢true (sym idle ∙ going)))
     (reached s pen memory n .1))
 
-module _ (operations : ℕ) (s : Setup) (course : s .course ≡ courseOf operations) (flow : s .flow ≡ flowOf operations) where
+module _ (operations : ℕ) (s : Setup) (course : s .travel .course ≡ courseOf operations) (flow : s .brush .flow ≡ flowOf operations) where
   abbrev holds : Pen → Bool
-  holds pen = countersHold operations (s .dimensions) (s .steps) (pen .drawing)
+  holds pen = countersHold operations (s .travel .dimensions) (s .travel .steps) (pen .drawing)
 
   abbrev left : Pen → ℕ
-  left pen = leftOf (s .dimensions) (s .steps) (pen .drawing)
+  left pen = leftOf (s .travel .dimensions) (s .travel .steps) (pen .drawing)
 
   -- a position sets no bit but a fill's
   inside-fills : (memory : List ℕ) (pen : Pen) → insideAt s memory pen ≡ true → isFill operations ≡ true
   unfolding insideAt flowOf
-  inside-fills memory pen inside = ap (λ (f : Flow). f .fills) (sym flow) ∙ and-left (s .flow .fills) _ inside
+  inside-fills memory pen inside = ap (λ (f : Flow). f .fills) (sym flow) ∙ and-left (s .brush .flow .fills) _ inside
 
   -- one position fewer is left, and the counters hold
   pub positioned-counted : (t : Run) → unfinished (t .pen .drawing) ≡ true → holds (t .pen) ≡ true
-      → Counted operations (s .dimensions) (s .steps) (t .pen .drawing) (positioned s t .pen .drawing)
+      → Counted operations (s .travel .dimensions) (s .travel .steps) (t .pen .drawing) (positioned s t .pen .drawing)
   unfolding positioned crossed
-  positioned-counted t going h = moved-counted operations s (t .pen) (insideAt s (t .memory) (t .pen)) course h (inside-fills (t .memory) (t .pen)) going
+  positioned-counted t going h =
+      moved-counted operations (s .travel) (t .pen) (insideAt s (t .memory) (t .pen)) course h (inside-fills (t .memory) (t .pen)) going
 
   pub counters-after : (n : ℕ) (t : Run) → holds (t .pen) ≡ true → holds (after s n t .pen) ≡ true
   counters-after n t h = kept-after s (λ u. holds (u .pen) ≡ true) (λ u going held. positioned-counted u going held .held) n t h
@@ -228,9 +233,10 @@ module _ (operations : ℕ) (s : Setup) (course : s .course ≡ courseOf operati
     unfolding begun
     idle-after-all =
         let d : Drawing = after s n (begun pen memory) .pen .drawing in
-        let held : countersHold operations (s .dimensions) (s .steps) d ≡ true = counters-after n (begun pen memory) h in
+        let held : countersHold operations (s .travel .dimensions) (s .travel .steps) d ≡ true = counters-after n (begun pen memory) h in
         (idle-left s d, λ none. by d (unfinished d) refl held none)
       where
-        by : (d : Drawing) (t : Bool) → unfinished d ≡ t → countersHold operations (s .dimensions) (s .steps) d ≡ true → leftOf (s .dimensions) (s .steps) d ≡ 0 → unfinished d ≡ false
+        by : (d : Drawing) (t : Bool) → unfinished d ≡ t → countersHold operations (s .travel .dimensions) (s .travel .steps) d ≡ true
+            → leftOf (s .travel .dimensions) (s .travel .steps) d ≡ 0 → unfinished d ≡ false
         by d false e held none = e
-        by d true e held none = let some = left-some operations (s .dimensions) (s .steps) d held e in absurd (omega arith)
+        by d true e held none = let some = left-some operations (s .travel .dimensions) (s .travel .steps) d held e in absurd (omega arith)

@@ -3,7 +3,7 @@ use Prim.Native.Nat.{ℕ, zero, suc, _+_}
 use mathlib.Core.List.{List}
 use Rattle.numbers.specs.Choose.{choose}
 use Rattle.parts.specs.Drawings.{unfinished}
-use Rattle.moves.specs.declared.Setup.{Setup}
+use Rattle.places.specs.declared.Setup.{Setup}
 use Rattle.moves.specs.declared.Pen.{Pen}
 use Rattle.moves.specs.Moves.{moved}
 use Rattle.position.specs.Drawn.{crossed, drawn}
@@ -20,7 +20,7 @@ begun pen memory = record { pen = pen; memory = memory; done = 0 }
 
 -- 01, The functions: a position, and the move to the next as part of it; 02, 102: a fill's bit is set by the position
 unfoldable pub positioned : Setup → Run → Run
-positioned s t = record { pen = moved s (crossed s (t .memory) (t .pen)); memory = drawn s (t .memory) (t .pen); done = t .done + 1 }
+positioned s t = record { pen = moved (s .travel) (crossed s (t .memory) (t .pen)); memory = drawn s (t .memory) (t .pen); done = t .done + 1 }
 
 -- 01, The functions: one position, if one is left
 unfoldable pub stepped : Setup → Run → Run

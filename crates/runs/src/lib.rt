@@ -6,7 +6,6 @@ ghost use Rattle.parts.specs.Drawings.{unfinished};
 ghost use Rattle.position.specs.Inner.{Safe};
 ghost use Rattle.runs.specs.Runs.{begun, after};
 use moves::Pen;
-use moves::passage::code_in;
 use moves::passage::next;
 use parts::drawing::is_unfinished;
 use places::Setup;
@@ -32,13 +31,11 @@ pub fn run(setup: Setup, from: Pen, memory: &mut [u8], allowance: u32) -> Ran
     let first = from.drawing;
     let mut going = is_unfinished(first);
     while (done < allowance) & going {
-        let drawing = pen.drawing;
-        let code = code_in(travel.steps, drawing);
-        let inside = draw(setup, memory, code, pen);
-        pen = next(travel, code, inside, pen);
+        let inside = draw(setup, memory, pen);
+        pen = next(travel, inside, pen);
         done += 1;
-        let following = pen.drawing;
-        going = is_unfinished(following);
+        let drawing = pen.drawing;
+        going = is_unfinished(drawing);
     }
     Ran { pen, done }
 }

@@ -34,7 +34,8 @@ returns c = let mode = c .before .before .args .setup .brush .flow .mode in
     rw (c .enum-told .given .1) (sym (none-left (eqb mode 1) (eqb mode 2) (eqb mode 3)))
 
 returns-2 : tie.Need-returns-2
-returns-2 c = rw (c .before .before .drawing .given .1, c .line-nulled .ensures, toZ-ofZ w32 (c .before .before .before .before .args .e) (c .before .before .before .before .fits .e))
+returns-2 c = let start = c .before .before .before .before in
+    rw (c .before .before .drawing .given .1, c .line-nulled .ensures, toZ-ofZ w32 (start .args .e) (start .fits .e))
 
 returns-3 : tie.Need-returns-3
 unfolding codeIn

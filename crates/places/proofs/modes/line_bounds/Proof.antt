@@ -17,7 +17,13 @@ of-run-requires c κs = search needs
 
 returns : tie.Need-returns
 unfolding isLast onBoundary
-returns c = rw (c .of-run .ensures, c .before .moves-row .ensures, c .before .before .before .line-step .ensures, toZ-ofZ w32 (c .before .before .before .before .before .args .e) (search needs))
+returns c = let step = c .before .before .before in
+    rw (
+      c .of-run .ensures,
+      c .before .moves-row .ensures,
+      step .line-step .ensures,
+      toZ-ofZ w32 (step .before .before .args .e) (search needs),
+    )
 
 pub line-bounds-spec : {M : Type 1} → statement M
 line-bounds-spec =

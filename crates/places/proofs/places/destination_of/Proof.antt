@@ -21,9 +21,10 @@ returns : tie.Need-returns
 returns c =
     let a = c .before .before .before .before .args in
     let place = c .before .before .before in
+    let down = toZ-ofZ w16 (a .pen .pointers .destination .y) (search (needs, c .before .struct-told .given .0 .1 .1)) in
     let across = toZ-ofZ w16 (place .place-x .result) (record { sfits = place .place-x .ok }) ∙ place .place-x .ensures in (
       rw (c .before .before .column-of .ensures, across, +ℤ-idr (placeX (a .brush) (a .pen))),
-      rw (c .column-of2 .ensures, toZ-ofZ w16 (a .pen .pointers .destination .y) (search (needs, c .before .struct-told .given .0 .1 .1)), +ℤ-idr (a .pen .pointers .destination .y)),
+      rw (c .column-of2 .ensures, down, +ℤ-idr (a .pen .pointers .destination .y)),
     )
 
 pub destination-of-spec : {M : Type 1} → statement M

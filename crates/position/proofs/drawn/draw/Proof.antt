@@ -1,44 +1,80 @@
--- `draw` leaves what is drawn: nothing where the position is left out, and otherwise what is written; it answers the bit that it writes by.
-use mathlib.Core.Path.{_∙_, sym}
-use borrow.Author.Tests.{not-true, not-false}
-use Rattle.numbers.proofs.Choices.{choose-true, choose-false}
-use Rattle.position.proofs.Writing.{drawn-in}
-use Rattle.position.proofs.Safety.{left-in}
+-- `draw` leaves what is drawn: the fate judged of what is found is the position's, and only a painted position is written.
+use mathlib.Core.Path.{_≡_, _∙_, sym, ap}
+use mathlib.Core.Bool.{Bool, _&&_}
+use Rattle.pixels.proofs.Pixels.{cell-in-byte, cell-in-memory}
+use Rattle.position.specs.declared.Fate.{Fate}
+use Rattle.position.specs.declared.Fate.the-variants.{Painted}
+use Rattle.position.specs.Fates.{fateOf}
+use Rattle.position.specs.Drawn.{insideAt, drawnBy, drawn}
+use Rattle.position.proofs.Safety.{inside-read}
+use Rattle.position.proofs.Writing.{unpainted, unpainted-drawn, open-inside, painted-open}
 use borrow.Author.Needs.{needs}
 use Rattle.position.proofs.drawn.draw.Statement.{statement}
 use Rattle.position.proofs.drawn.draw.Tie as tie
 
-is-inside-at-requires : tie.Need-is-inside-at-requires
-is-inside-at-requires c κs = c .before .before .pre
+-- the fate that is judged is the position's
+judged : (c : tie.After-judge) → let a = c .before .before .before .before .before .before .args in
+    c .judge .result ≡ fateOf (a .setup) (a .memory .now) (a .pen)
+judged c = c .judge .ensures _ _ (c .before .before .before .look .ensures)
 
-is-left-out-requires : tie.Need-is-left-out-requires
-is-left-out-requires c κs = c .before .before .before .before .pre .1
+painted : (c : tie.After-enum-told) → let a = c .before .before .before .before .before .before .before .before .args in
+    fateOf (a .setup) (a .memory .now) (a .pen) ≡ Painted
+painted c = sym (judged (c .before .before)) ∙ c .enum-told .given .1
+
+-- the bit that is read is the fill's
+inside : (c : tie.After-look) → let a = c .before .before .before .args in
+    (a .setup .brush .flow .fills && c .look .result .one) ≡ insideAt (a .setup) (a .memory .now) (a .pen)
+inside c =
+    let start = c .before .before .before in
+    let s = start .args .setup in
+    ap (λ (t : Bool). s .brush .flow .fills && t) (c .look .ensures .pattern) ∙ inside-read s (start .args .memory .now) (start .args .pen) (start .pre .0)
+
+look-requires : tie.Need-look-requires
+look-requires c κs = search needs
+
+judge-requires : tie.Need-judge-requires
+judge-requires c κs = search needs
+
+enum-told : tie.Need-enum-told
+enum-told c = search needs
 
 write-requires : tie.Need-write-requires
 write-requires c κs =
-    let inside = left-in _ _ _ (sym (c .before .before .is-left-out .ensures) ∙ not-true _ (c .before .if1 .taken)) in
-    (c .before .before .before .before .before .before .before .pre .1, inside .0, inside .1, c .before .before .before .before .is-inside-at .ensures)
+    let look = c .before .before .before .before .before .before in
+    let free = painted-open _ _ _ (painted (c .before)) in
+    let on = open-inside _ _ (free .0) in
+    let pre = look .before .before .before .pre in
+    rw (look .look .ensures .cell (free .0) (free .1))
+    (pre .1, cell-in-byte _ _ _ _, cell-in-memory _ _ _ _ (pre .2 .destination (on .0) (on .1)))
 
 same-length : tie.Need-same-length
 same-length c = search needs
 
 returns : tie.Need-returns
+unfolding drawn
 returns c =
-    let kept = sym (c .before .before .before .before .before .is-left-out .ensures) ∙ not-true _ (c .before .before .before .before .if1 .taken) in
-    (c .before .before .before .before .before .before .before .is-inside-at .ensures, c .before .before .write .ensures ∙ sym (drawn-in _ _ _ ∙ choose-false _ _ kept))
+    let told = c .before .before .before .before in
+    let look = told .before .before .before .before .before in
+    let a = look .before .before .before .args in
+    let fate = painted told in (
+      inside look,
+      c .before .before .write .ensures _ (look .look .ensures) fate ∙ ap (λ (f : Fate). drawnBy f (a .setup) (a .memory .now) (a .pen)) (sym fate),
+    )
 
 same-length-2 : tie.Need-same-length-2
 same-length-2 c = search needs
 
 returns-2 : tie.Need-returns-2
-returns-2 c = (c .before .before .before .is-inside-at .ensures, sym (drawn-in _ _ _ ∙ choose-true _ _ (sym (c .before .is-left-out .ensures) ∙ not-false _ (c .if1 .left))))
+unfolding drawn
+returns-2 c = (inside (c .before .before .before .before), sym (unpainted-drawn _ _ _ _ (λ e. unpainted _ (c .match .keys2) (judged (c .before) ∙ e))))
 
 pub draw-spec : {M : Type 1} → statement M
 draw-spec =
     tie.close
     (tie.spec
-    is-inside-at-requires
-    is-left-out-requires
+    look-requires
+    judge-requires
+    enum-told
     write-requires
     same-length
     returns

@@ -1,9 +1,9 @@
 -- `is_on_zero` is the definition: in mode 2 the mask pixel decides, and in no other it is asked.
-use borrow.Author.Needs.{needs}
 use borrow.Author.Tests.{eq-eqb, ne-eqb}
 use Rattle.position.specs.Fates.{onZero}
-use Rattle.position.proofs.fates.is_on_zero.Statement.{statement}
-use Rattle.position.proofs.fates.is_on_zero.Tie as tie
+use borrow.Author.Needs.{needs}
+use Rattle.position.proofs.look.is_on_zero.Statement.{statement}
+use Rattle.position.proofs.look.is_on_zero.Tie as tie
 
 returns : tie.Need-returns
 unfolding onZero
@@ -13,19 +13,12 @@ mask-of-requires : tie.Need-mask-of-requires
 mask-of-requires c κs = search needs
 
 get-requires : tie.Need-get-requires
-get-requires c κs =
-    let pre = c .before .before .before .before .pre in
+get-requires c κs = let pre = c .before .before .before .before .pre in
     rw (c .mask-of .ensures .0, c .mask-of .ensures .1) (pre .0 .mask (pre .1) (pre .2) (c .before .if1 .left))
 
 returns-2 : tie.Need-returns-2
 unfolding onZero
-returns-2 c =
-    rw (
-      eq-eqb _ _ (c .before .before .if1 .left),
-      c .get .ensures,
-      c .before .mask-of .ensures .0,
-      c .before .mask-of .ensures .1,
-    )
+returns-2 c = rw (eq-eqb _ _ (c .before .before .if1 .left), c .get .ensures, c .before .mask-of .ensures .0, c .before .mask-of .ensures .1)
 
 pub is-on-zero-spec : {M : Type 1} → statement M
 is-on-zero-spec = tie.close (tie.spec returns mask-of-requires get-requires returns-2)

@@ -1,8 +1,8 @@
 -- `picked` is the source pixel exactly where the picked source field asks for it.
 use mathlib.Core.Path.{_∙_, sym}
 use borrow.Author.Needs.{needs}
-use Rattle.position.proofs.drawn.picked.Statement.{statement}
-use Rattle.position.proofs.drawn.picked.Tie as tie
+use Rattle.position.proofs.write.picked.Statement.{statement}
+use Rattle.position.proofs.write.picked.Tie as tie
 
 takes-source-requires : tie.Need-takes-source-requires
 takes-source-requires c κs = search needs

@@ -1,11 +1,11 @@
--- `source_pixel` is the pixel at the source pointer, which lies in the memory where it is read.
+-- `source_read` is the pixel at the source pointer, which lies in the memory where it is read.
 use mathlib.Core.Path.{sym, _∙_}
-use borrow.Author.Needs.{needs}
 use Rattle.numbers.proofs.Choices.{choose-true, choose-false}
 use Rattle.position.specs.Drawn.{sourcePixel}
 use Rattle.position.specs.Inner.{sourceRead}
-use Rattle.position.proofs.drawn.source_pixel.Statement.{statement}
-use Rattle.position.proofs.drawn.source_pixel.Tie as tie
+use borrow.Author.Needs.{needs}
+use Rattle.position.proofs.look.source_read.Statement.{statement}
+use Rattle.position.proofs.look.source_read.Tie as tie
 
 reads-source-requires : tie.Need-reads-source-requires
 reads-source-requires c κs = search needs
@@ -21,5 +21,5 @@ returns-2 : tie.Need-returns-2
 unfolding sourceRead
 returns-2 c = sym (choose-false _ 0 (sym (c .before .reads-source .ensures) ∙ c .if1 .left))
 
-pub source-pixel-spec : {M : Type 1} → statement M
-source-pixel-spec = tie.close (tie.spec reads-source-requires get-requires returns returns-2)
+pub source-read-spec : {M : Type 1} → statement M
+source-read-spec = tie.close (tie.spec reads-source-requires get-requires returns returns-2)

@@ -1,0 +1,48 @@
+-- `mixed_pixel` is the definition, of what was read for each part of it.
+use mathlib.Core.Path.{_≡_}
+use mathlib.Core.List.{List}
+use Prim.Native.Nat.{ℕ}
+use Rattle.moves.specs.declared.Pen.{Pen}
+use Rattle.position.specs.Drawn.{isForeground, inkOf, picked, mixedPixel}
+use Rattle.position.specs.Inner.{Seen}
+use Rattle.position.proofs.Safety.{picked-read}
+use borrow.Author.Needs.{needs}
+use Rattle.position.proofs.write.mixed_pixel.Statement.{statement}
+use Rattle.position.proofs.write.mixed_pixel.Tie as tie
+
+-- what the mix is given as S
+source-picked : (c : tie.After-picked) (memory : List ℕ) (pen : Pen) → let a = c .before .before .before .args in Seen (a .setup) memory pen (a .sight)
+    → c .picked .result ≡ picked (a .setup) memory pen
+unfolding inkOf picked
+source-picked c memory pen seen =
+    let s = c .before .before .before .args .setup in
+    rw (c .picked .ensures, c .before .ink-of .ensures, c .before .before .is-foreground .ensures memory pen seen, seen .source)
+    (picked-read s memory pen (isForeground s memory pen) (inkOf s memory pen .colour))
+
+is-foreground-requires : tie.Need-is-foreground-requires
+is-foreground-requires c κs = search needs
+
+ink-of-requires : tie.Need-ink-of-requires
+ink-of-requires c κs = search needs
+
+picked-requires : tie.Need-picked-requires
+picked-requires c κs = search needs
+
+mix-requires : tie.Need-mix-requires
+mix-requires c κs = c .before .before .before .pre
+
+returns : tie.Need-returns
+unfolding inkOf mixedPixel
+returns c = λ memory pen seen same.
+    rw (
+      c .mix .ensures,
+      source-picked (c .before) memory pen seen,
+      c .before .before .ink-of .ensures,
+      c .before .before .before .is-foreground .ensures memory pen seen,
+      same,
+    )
+
+pub mixed-pixel-spec : {M : Type 1} → statement M
+mixed-pixel-spec =
+    tie.close
+    (tie.spec is-foreground-requires ink-of-requires picked-requires mix-requires returns)
