@@ -1,4 +1,5 @@
 pub mod PlaceLaws
 pub mod WriteLaws
 pub mod ImageRules
+pub mod SafeLaws
 pub mod Opened

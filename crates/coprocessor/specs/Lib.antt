@@ -2,5 +2,6 @@ pub mod Fresh
 pub mod Valid
 pub mod Reads
 pub mod Writes
+pub mod Runs
 pub mod Images
 pub mod Inner

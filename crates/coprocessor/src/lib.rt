@@ -4,6 +4,7 @@ use parts::refusals::Refusal;
 use parts::shapes::Registers;
 use pixels::Map;
 
+mod drawing;
 mod fresh;
 mod images;
 mod loads;

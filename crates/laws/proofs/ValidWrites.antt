@@ -1,15 +1,15 @@
 -- Every write leaves a valid record valid: each group takes what is reduced, no drawing is in hand after an accepted write that starts none, and one that is started goes on by the rules of a start.
 use mathlib.Core.Path.{_≡_}
-use mathlib.Core.Bool.{true, false, not, or-true}
+use mathlib.Core.Bool.{true, false, not, _&&_, or-true}
 use Prim.Native.Nat.{ℕ}
 use Rattle.numbers.specs.declared.bytes.Write.{Write}
 use Rattle.numbers.proofs.Choices.{and-left, and-right}
 use Rattle.pixels.specs.declared.Map.{Map}
 use Rattle.parts.specs.Refusals.{isAccepted}
 use Rattle.parts.specs.Drawings.{unfinished}
-use Rattle.parts.specs.Registers.{placed}
+use Rattle.parts.specs.Registers.{mapIndex, placed}
 use Rattle.parts.specs.Moved.{withMoved}
-use Rattle.parts.specs.Reduced.{mapReduced, pointersReduced, registersReduced}
+use Rattle.parts.specs.Reduced.{fits, mapReduced, termsReduced, coloursReduced, figureReduced, registersReduced}
 use Rattle.parts.proofs.ReducedLaws.{both-kept}
 use Rattle.parts.proofs.LatchLaws.{map-latched-reduced, registers-latched-reduced}
 use Rattle.rules.specs.Operations.{draws}
@@ -50,7 +50,11 @@ idle-goes-on c idle = rw idle
 started-reduced : (length : ℕ) (c : Coprocessor) → reducedOf c ≡ true → reducedOf (started length c) ≡ true
 unfolding started withMoved registersReduced reducedOf
 started-reduced length c =
-    both-kept (λ h. h) (both-kept (λ h. h) (pointers-started-reduced (c .registers .figure .operations) (c .maps) (c .registers .pointers)))
+    let r = c .registers in
+    let registers : registersReduced r ≡ true → registersReduced (started length c .registers) ≡ true =
+    both-kept {a = fits mapIndex (r .index) && termsReduced (r .terms) && coloursReduced (r .colours) && figureReduced (r .figure)} (λ h. h)
+    (pointers-started-reduced (r .figure .operations) (c .maps) (r .pointers)) in
+    both-kept {a = mapsReduced (c .maps)} (λ h. h) registers
 
 started-goes-on : (length : ℕ) (c : Coprocessor) → draws (c .registers .figure .operations) ≡ true → isCount length ≡ true
     → isAccepted (startRefusalOf c) ≡ true → goesOn (started length c) ≡ true

@@ -13,7 +13,7 @@ use Rattle.mixes.specs.Mixes.{tableBit, logical, gathered, merged, mixed}
 use Rattle.mixes.specs.Conditions.{holdsOf, conditionHolds}
 use Rattle.parts.specs.declared.drawing.Drawing.{Drawing}
 use Rattle.parts.specs.declared.drawing.Drawing.the-variants.{Line, Codes}
-use Rattle.rules.specs.Starts.{codeAt}
+use Rattle.rules.specs.Codes.{codeAt}
 use Rattle.moves.specs.declared.Turn.the-variants.{Forth}
 use Rattle.moves.specs.declared.Pen.{Pen}
 use Rattle.places.specs.declared.Setup.{Setup}
@@ -36,8 +36,7 @@ setup derived mask mode condition =
         course = record { x = Forth; y = Forth; steep = false; read = false; inverts = false; bounds = false };
         source = record { used = derived; map = row };
         pattern = record { used = false; map = row };
-        dimensions = record { x = 0; y = 0 };
-        steps = 0x20000000;
+        figure = record { operations = 0; steps = 0x20000000; dimensions = record { x = 0; y = 0 }; origin = record { x = 2; y = 0 } };
         terms = record { e = pos 0; k1 = pos 0; k2 = pos 0 };
       };
       brush = record {
@@ -45,10 +44,12 @@ setup derived mask mode condition =
         mask = record { mode = mask; map = record { base = 0; width = 1; height = 0; format = 0 }; origin = record { x = 2; y = 0 } };
         edge = negsuc 2047;
         flow = record { derived = derived; foreground = false; background = false; fills = false; mode = mode };
-        inks = record {
+        colours = record {
           foreground = record { mix = 3; colour = 0xAA };
           background = record { mix = 3; colour = 0xBB };
           compare = record { condition = condition; value = 0 };
+          planes = 0xFF;
+          carries = 0;
         };
         depth = record { bits = 8; ones = 0xFF; planes = 0xFF };
       };

@@ -45,7 +45,7 @@ isForeground s memory pen =
 
 -- 01, One position: pattern 1 picks the foreground mix, 0 the background
 unfoldable pub inkOf : Setup → List ℕ → Pen → Ink
-inkOf s memory pen = choose (isForeground s memory pen) (s .brush .inks .foreground) (s .brush .inks .background)
+inkOf s memory pen = choose (isForeground s memory pen) (s .brush .colours .foreground) (s .brush .colours .background)
 
 -- 01, One position: S is the source pixel where the picked source field is 10, otherwise the picked colour
 unfoldable pub picked : Setup → List ℕ → Pen → ℕ

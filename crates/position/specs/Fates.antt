@@ -25,7 +25,7 @@ onZero b memory pen =
 -- 01, One position: the compare condition is true of the destination
 unfoldable pub isCompared : Brush → List ℕ → Pen → Bool
 isCompared b memory pen =
-    conditionHolds (b .depth .bits) (b .inks .compare .condition) (b .depth .planes) (destinationPixel b memory pen) (b .inks .compare .value)
+    conditionHolds (b .depth .bits) (b .colours .compare .condition) (b .depth .planes) (destinationPixel b memory pen) (b .colours .compare .value)
 
 -- 01, One position; 02, 102; docs/DECISIONS.md, 43: nothing is written for a move code, a nulled pixel (first, last, or kept back by
 -- the boundary mode), outside the map, outside the mask boundary, on a 0 mask pixel, or when the condition is true

@@ -25,7 +25,7 @@ pub(crate) fn foresee(setup: Setup, pen: Pen) -> Fate
     ensures { λ r. ⌜ r ≡ foreseenOf setup pen ⌝ }
 {
     let drawing = pen.drawing;
-    let code = code_in(setup.travel.steps, drawing);
+    let code = code_in(setup.travel.figure.steps, drawing);
     if is_move(code, drawing) {
         return Fate::Moved;
     }
@@ -45,13 +45,13 @@ pub(crate) fn foresee(setup: Setup, pen: Pen) -> Fate
 fn is_compared(brush: Brush, pixel: u32) -> bool
     requires { ⌜ Cut (brush .depth) ⌝ }
     ensures { λ r.
-        ⌜ r ≡ conditionHolds (brush .depth .bits) (brush .inks .compare .condition) (brush .depth .planes) pixel (brush .inks .compare .value) ⌝ }
+        ⌜ r ≡ conditionHolds (brush .depth .bits) (brush .colours .compare .condition) (brush .depth .planes) pixel (brush .colours .compare .value) ⌝ }
 {
     holds(
         brush.depth,
-        brush.inks.compare.condition,
+        brush.colours.compare.condition,
         pixel,
-        brush.inks.compare.value,
+        brush.colours.compare.value,
     )
 }
 

@@ -13,10 +13,10 @@ ghost use Rattle.position.specs.Drawn.{isForeground, mixedPixel, drawnBy
 ghost use Rattle.position.specs.Inner.{Seen};
 use crate::Sight;
 use mixes::mix;
+use parts::shapes::Colours;
 use parts::shapes::Ink;
 use pixels::store;
 use places::Flow;
-use places::Inks;
 use places::Setup;
 
 // Whether the pattern is 1: its map's pixel, in a fill where that is inside, the source pixel where it is derived, and otherwise always.
@@ -33,13 +33,13 @@ fn is_foreground(setup: Setup, sight: Sight) -> bool
 }
 
 // The mix and the colour that the pattern picks.
-fn ink_of(inks: Inks, foreground: bool) -> Ink
-    ensures { λ r. ⌜ r ≡ choose foreground (inks .foreground) (inks .background) ⌝ }
+fn ink_of(colours: Colours, foreground: bool) -> Ink
+    ensures { λ r. ⌜ r ≡ choose foreground (colours .foreground) (colours .background) ⌝ }
 {
     if foreground {
-        inks.foreground
+        colours.foreground
     } else {
-        inks.background
+        colours.background
     }
 }
 
@@ -73,7 +73,7 @@ fn mixed_pixel(setup: Setup, sight: Sight) -> u32
         → r ≡ mixedPixel setup memory pen) ⌝ }
 {
     let foreground = is_foreground(setup, sight);
-    let ink = ink_of(setup.brush.inks, foreground);
+    let ink = ink_of(setup.brush.colours, foreground);
     mix(
         setup.brush.depth,
         ink.mix,

@@ -141,8 +141,8 @@ run-add s pen memory a b =
 
 -- ---- the positions left
 
-idle-left : (s : Setup) (d : Drawing) → unfinished d ≡ false → leftOf (s .travel .dimensions) (s .travel .steps) d ≡ 0
-idle-left s (Nothing stopped) e = left-idle (s .travel .dimensions) (s .travel .steps) stopped
+idle-left : (s : Setup) (d : Drawing) → unfinished d ≡ false → leftOf (s .travel .figure) d ≡ 0
+idle-left s (Nothing stopped) e = left-idle (s .travel .figure) stopped
 idle-left s (Line rose done) e = absurd (false≢true (sym e))
 idle-left s (Codes count code done) e = absurd (false≢true (sym e))
 idle-left s (Block inside column row) e = absurd (false≢true (sym e))
@@ -180,24 +180,25 @@ after-done s pen memory (suc n) =
     (λ idle. absurd (false≢true (sym idle ∙ going)))
     (reached s pen memory n .1))
 
-module _ (operations : ℕ) (s : Setup) (course : s .travel .course ≡ courseOf operations) (flow : s .brush .flow ≡ flowOf operations) where
+module _ (s : Setup)
+    (course : s .travel .course ≡ courseOf (s .travel .figure .operations)) (flow : s .brush .flow ≡ flowOf (s .travel .figure .operations)) where
   abbrev holds : Pen → Bool
-  holds pen = countersHold operations (s .travel .dimensions) (s .travel .steps) (pen .drawing)
+  holds pen = countersHold (s .travel .figure) (pen .drawing)
 
   abbrev left : Pen → ℕ
-  left pen = leftOf (s .travel .dimensions) (s .travel .steps) (pen .drawing)
+  left pen = leftOf (s .travel .figure) (pen .drawing)
 
   -- a position sets no bit but a fill's
-  inside-fills : (memory : List ℕ) (pen : Pen) → insideAt s memory pen ≡ true → isFill operations ≡ true
+  inside-fills : (memory : List ℕ) (pen : Pen) → insideAt s memory pen ≡ true → isFill (s .travel .figure .operations) ≡ true
   unfolding insideAt flowOf
   inside-fills memory pen inside = ap (λ (f : Flow). f .fills) (sym flow) ∙ and-left (s .brush .flow .fills) _ inside
 
   -- one position fewer is left, and the counters hold
   pub positioned-counted : (t : Run) → unfinished (t .pen .drawing) ≡ true → holds (t .pen) ≡ true
-      → Counted operations (s .travel .dimensions) (s .travel .steps) (t .pen .drawing) (positioned s t .pen .drawing)
+      → Counted (s .travel .figure) (t .pen .drawing) (positioned s t .pen .drawing)
   unfolding positioned crossed
   positioned-counted t going h =
-      moved-counted operations (s .travel) (t .pen) (insideAt s (t .memory) (t .pen)) course h (inside-fills (t .memory) (t .pen)) going
+      moved-counted (s .travel) (t .pen) (insideAt s (t .memory) (t .pen)) course h (inside-fills (t .memory) (t .pen)) going
 
   pub counters-after : (n : ℕ) (t : Run) → holds (t .pen) ≡ true → holds (after s n t .pen) ≡ true
   counters-after n t h = kept-after s (λ u. holds (u .pen) ≡ true) (λ u going held. positioned-counted u going held .held) n t h
@@ -233,10 +234,10 @@ module _ (operations : ℕ) (s : Setup) (course : s .travel .course ≡ courseOf
     unfolding begun
     idle-after-all =
         let d : Drawing = after s n (begun pen memory) .pen .drawing in
-        let held : countersHold operations (s .travel .dimensions) (s .travel .steps) d ≡ true = counters-after n (begun pen memory) h in
+        let held : countersHold (s .travel .figure) d ≡ true = counters-after n (begun pen memory) h in
         (idle-left s d, λ none. by d (unfinished d) refl held none)
       where
-        by : (d : Drawing) (t : Bool) → unfinished d ≡ t → countersHold operations (s .travel .dimensions) (s .travel .steps) d ≡ true
-            → leftOf (s .travel .dimensions) (s .travel .steps) d ≡ 0 → unfinished d ≡ false
+        by : (d : Drawing) (t : Bool) → unfinished d ≡ t → countersHold (s .travel .figure) d ≡ true
+            → leftOf (s .travel .figure) d ≡ 0 → unfinished d ≡ false
         by d false e held none = e
-        by d true e held none = let some = left-some operations (s .travel .dimensions) (s .travel .steps) d held e in absurd (omega arith)
+        by d true e held none = let some = left-some (s .travel .figure) d held e in absurd (omega arith)
