@@ -9,3 +9,6 @@ pub mod LoadedLaws
 pub mod StoredValues
 pub mod ReadBack
 pub mod MapIndex
+pub mod HeldRuns
+pub mod RunValid
+pub mod Refused

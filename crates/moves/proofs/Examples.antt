@@ -33,7 +33,8 @@ travel operations dimensions steps k1 k2 =
       source = record { used = usesSource operations; map = eight };
       pattern = record { used = usesPattern operations; map = eight };
       figure = record { operations = operations; steps = steps; dimensions = dimensions; origin = record { x = 0; y = 0 } };
-      terms = record { e = pos 0; k1 = k1; k2 = k2 };
+      k1 = k1;
+      k2 = k2;
     }
 
 -- a pen with the source at one place and the destination at another

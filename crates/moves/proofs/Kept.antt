@@ -117,7 +117,7 @@ destination-moved s =
 
 pub line-error-on : (s : Travel) (e : ℤ) → circle 8192 16384 (lineError s e) ≡ lineError s e
 unfolding lineError
-line-error-on s e = circle-circle 8192 16384 (lit< tt) (e +ℤ choose (ltZ e (pos 0)) (s .terms .k1) (s .terms .k2))
+line-error-on s e = circle-circle 8192 16384 (lit< tt) (e +ℤ choose (ltZ e (pos 0)) (s .k1) (s .k2))
 
 pub error-moved : (s : Travel) (pen : Pen) → circle 8192 16384 (pen .e) ≡ pen .e → circle 8192 16384 (moved s pen .e) ≡ moved s pen .e
 unfolding penStepped penWith rowPassed

@@ -39,5 +39,6 @@ travelOf f maps terms =
       source = record { used = usesSource (f .operations); map = mapAt maps (sourceField (f .operations)) };
       pattern = record { used = usesPattern (f .operations); map = mapAt maps (patternField (f .operations)) };
       figure = f;
-      terms = terms;
+      k1 = terms .k1;
+      k2 = terms .k2;
     }

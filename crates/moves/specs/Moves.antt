@@ -55,7 +55,7 @@ penGone s step e drawing pen = penStepped s (sourceBy (s .course) step) (destina
 
 -- 01, The functions, Line: E below 0 adds K1, otherwise K2; E is reduced as in a write
 unfoldable pub lineError : Travel → ℤ → ℤ
-lineError s e = circle 8192 16384 (e +ℤ choose (ltZ e (pos 0)) (s .terms .k1) (s .terms .k2))
+lineError s e = circle 8192 16384 (e +ℤ choose (ltZ e (pos 0)) (s .k1) (s .k2))
 
 -- 02, 102: a step in Y of a mode 11 line that goes up sets the line's bit, and any other step clears it
 unfoldable pub rises : Travel → ℤ → Bool

@@ -67,6 +67,7 @@ pub fn travel_of(figure: Figure, maps: [Map; 4], terms: Terms) -> Travel
         source,
         pattern,
         figure,
-        terms,
+        k1: terms.k1,
+        k2: terms.k2,
     }
 }

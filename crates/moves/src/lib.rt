@@ -2,7 +2,6 @@
 use parts::drawing::Drawing;
 use parts::shapes::Figure;
 use parts::shapes::Pointers;
-use parts::shapes::Terms;
 use pixels::Map;
 
 pub mod decoded;
@@ -62,13 +61,14 @@ pub struct Ground {
 }
 
 // What the moves need, which a drawing does not change: which way it goes, the maps of the source and pattern pointers, the
-// figure, and K1 and K2 of the terms; E is the pen's.
+// figure, K1 and K2.
 pub struct Travel {
     pub course: Course,
     pub source: Ground,
     pub pattern: Ground,
     pub figure: Figure,
-    pub terms: Terms,
+    pub k1: i32,
+    pub k2: i32,
 }
 
 // What a drawing changes beside memory.

@@ -50,9 +50,9 @@ fn line_error(travel: Travel, e: i32) -> i32
     ensures { λ r. ⌜ r ≡ defined.lineError travel e ⌝ }
 {
     if e < 0 {
-        term_sum(e, travel.terms.k1)
+        term_sum(e, travel.k1)
     } else {
-        term_sum(e, travel.terms.k2)
+        term_sum(e, travel.k2)
     }
 }
 

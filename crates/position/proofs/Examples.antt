@@ -37,7 +37,8 @@ setup derived mask mode condition =
         source = record { used = derived; map = row };
         pattern = record { used = false; map = row };
         figure = record { operations = 0; steps = 0x20000000; dimensions = record { x = 0; y = 0 }; origin = record { x = 2; y = 0 } };
-        terms = record { e = pos 0; k1 = pos 0; k2 = pos 0 };
+        k1 = pos 0;
+        k2 = pos 0;
       };
       brush = record {
         destination = row;

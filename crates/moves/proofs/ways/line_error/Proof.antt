@@ -17,7 +17,7 @@ unfolding lineError
 returns c =
     let a = c .before .before .before .args in
     let e = toZ-ofZ w32 (a .e) (c .before .before .before .fits .e) in
-    let k1 = toZ-ofZ w32 (a .travel .terms .k1) (search (needs, c .before .struct-told .given .1 .1 .1 .1)) in
+    let k1 = toZ-ofZ w32 (a .travel .k1) (search (needs, c .before .struct-told .given)) in
     let sum = toZ-ofZ w32 (c .term-sum .result) (record { sfits = c .term-sum .ok }) in
     rw (rw e at (c .before .before .if1 .taken), sum, c .term-sum .ensures, e, k1)
 
@@ -26,7 +26,7 @@ unfolding lineError
 returns-2 c =
     let a = c .before .before .before .args in
     let e = toZ-ofZ w32 (a .e) (c .before .before .before .fits .e) in
-    let k2 = toZ-ofZ w32 (a .travel .terms .k2) (search (needs, c .before .struct-told2 .given .1 .1 .1 .1)) in
+    let k2 = toZ-ofZ w32 (a .travel .k2) (search (needs, c .before .struct-told2 .given)) in
     let sum = toZ-ofZ w32 (c .term-sum2 .result) (record { sfits = c .term-sum2 .ok }) in
     rw (rw e at (c .before .before .if1 .left), sum, c .term-sum2 .ensures, e, k2)
 
