@@ -16,13 +16,14 @@ abbrev pub noImage : ℕ
 noImage = 10
 
 -- docs/DECISIONS.md, 32: a refusal and a value in one number of 64 bits
-unfoldable pub answerOf : Refusal → ℕ → ℕ
-answerOf refusal value = refusalNumber refusal * 2 ^ 32 + value
+unfoldable pub callAnswer : Refusal → ℕ → ℕ
+callAnswer refusal value = refusalNumber refusal * 2 ^ 32 + value
 
 -- 01, refusals 9 and 10: a fresh state, then a save: 9 for a size outside the limit, otherwise 10 for a buffer not of 115 bytes
 unfoldable pub freshNumber : List ℕ → ℕ → ℕ
 freshNumber image size =
-    choose (isAccepted (freshAnswer size .refusal)) (refusalNumber (saveRefusal (freshAnswer size .coprocessor) image)) (refusalNumber (freshAnswer size .refusal))
+    choose (isAccepted (freshAnswer size .refusal)) (refusalNumber (saveRefusal (freshAnswer size .coprocessor) image))
+    (refusalNumber (freshAnswer size .refusal))
 
 -- 01, refusals 9 and 10: a fresh state of size 1 for a size outside the limit; a buffer not of 115 bytes stays
 unfoldable pub freshImage : List ℕ → ℕ → List ℕ
@@ -37,14 +38,18 @@ unfoldable pub writeImage : List ℕ → Write → List ℕ
 writeImage image w = choose (loads image) (saved (writeAnswer w (loaded image) .coprocessor) image) image
 
 -- docs/DECISIONS.md, 32: a read, after a load
-unfoldable pub readNumber : List ℕ → ℕ → ℕ → ℕ
+unfoldable pub readNumber : List ℕ → (offset length : ℕ) → ℕ
 readNumber image offset length =
-    choose (loads image) (answerOf (readAnswer (loaded image) offset length .refusal) (readAnswer (loaded image) offset length .value)) (noImage * 2 ^ 32)
+    choose (loads image)
+    (callAnswer (readAnswer (loaded image) offset length .refusal) (readAnswer (loaded image) offset length .value))
+    (noImage * 2 ^ 32)
 
 -- docs/DECISIONS.md, 32: a run, between a load and a save: the refusal, and the positions done
 unfoldable pub runNumber : List ℕ → List ℕ → ℕ → ℕ
 runNumber image memory n =
-    choose (loads image) (answerOf (runAnswer (loaded image) memory n .refusal) (runAnswer (loaded image) memory n .done)) (noImage * 2 ^ 32)
+    choose (loads image)
+    (callAnswer (runAnswer (loaded image) memory n .refusal) (runAnswer (loaded image) memory n .done))
+    (noImage * 2 ^ 32)
 
 -- docs/DECISIONS.md, 32: the image after it; one that does not load stays
 unfoldable pub runImage : List ℕ → List ℕ → ℕ → List ℕ

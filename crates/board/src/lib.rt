@@ -1,8 +1,8 @@
-// The coprocessor for C and Rust: each call works on a state image of 115 bytes that the caller owns.
+// The coprocessor for C and Rust: each call works on a state image of 115 bytes that the caller owns, and asks once whether it is valid.
 ghost use mathlib.Core.Path.{_≡_};
 ghost use Rattle.coprocessor.specs.Fresh.{freshAnswer};
 ghost use Rattle.coprocessor.specs.Images.{loadAnswer};
-ghost use Rattle.board.specs.Calls.{answerOf, freshNumber, freshImage, writeNumber, writeImage, readNumber, runNumber, runImage, runBytes, loadNumber};
+ghost use Rattle.board.specs.Calls.{callAnswer, freshNumber, freshImage, writeNumber, writeImage, readNumber, runNumber, runImage, runBytes, loadNumber};
 use coprocessor::Coprocessor;
 use coprocessor::Written;
 use parts::refusals::Refusal;
@@ -14,7 +14,7 @@ const NO_IMAGE: u32 = 10;
 
 // A refusal in the high word, a value in the low.
 fn answer(refusal: Refusal, value: u32) -> u64
-    ensures { λ r. ⌜ r ≡ answerOf refusal value ⌝ }
+    ensures { λ r. ⌜ r ≡ callAnswer refusal value ⌝ }
 {
     number(refusal) as u64 * 4294967296 + value as u64
 }
@@ -57,9 +57,9 @@ pub extern "C" fn xga_write(image: &mut [u8], offset: u32, length: u32, value: u
         return NO_IMAGE;
     }
     let state = opened.coprocessor;
-    let written = state.write(offset, length, value);
+    let written = state.write_known(offset, length, value);
     let next = written.coprocessor;
-    next.save(image);
+    next.save_known(image);
     let refusal = written.refusal;
     number(refusal)
 }
@@ -75,7 +75,7 @@ pub extern "C" fn xga_read(image: &[u8], offset: u32, length: u32) -> u64
         return answer(refusal, 0);
     }
     let state = opened.coprocessor;
-    let found = state.read(offset, length);
+    let found = state.read_known(offset, length);
     let second = found.refusal;
     answer(second, found.value)
 }
@@ -93,9 +93,9 @@ pub extern "C" fn xga_run(image: &mut [u8], memory: &mut [u8], allowance: u32) -
         return answer(found, 0);
     }
     let state = opened.coprocessor;
-    let drawn = state.run(memory, allowance);
+    let drawn = state.run_known(memory, allowance);
     let next = drawn.coprocessor;
-    next.save(image);
+    next.save_known(image);
     let refusal = drawn.refusal;
     answer(refusal, drawn.done)
 }

@@ -37,6 +37,15 @@ pub loaded-valid : (b : List ℕ) → loads b ≡ true → validOf (loaded b) �
 unfolding loadsBy
 loaded-valid b e = let by : loadsBy b ≡ true = loads-by b ∙ e in search (by, and-right)
 
+pub loads-length : (b : List ℕ) → loads b ≡ true → length b ≡ imageLength
+unfolding loads
+loads-length b e = eqb-true (length b) imageLength (search (e, and-left))
+
+-- a valid record is saved
+pub saved-valid : (c : Coprocessor) (b : List ℕ) → length b ≡ imageLength → validOf c ≡ true → saved c b ≡ imageOf c
+unfolding saves saved
+saved-valid c b long v = rw (eq-eqb (length b) imageLength long, v)
+
 -- the fields of these widths, read one after another from this offset on
 unfoldable reads : List ℕ → ℕ → List ℕ → List Field
 reads b k [] = []
@@ -126,8 +135,7 @@ image-loaded b e small = image-read b small (loads-by b ∙ e)
 
 -- load, then save
 pub save-load : (b into : List ℕ) → loads b ≡ true → ((i : ℕ) → getD b i 0 < 256) → length into ≡ imageLength → saved (loaded b) into ≡ b
-unfolding saved saves
-save-load b into e small long = rw (eq-eqb (length into) imageLength long, loaded-valid b e) (image-loaded b e small)
+save-load b into e small long = saved-valid (loaded b) into long (loaded-valid b e) ∙ image-loaded b e small
 
 -- ---- what its types hold it to
 

@@ -23,7 +23,7 @@ use Rattle.coprocessor.specs.Valid.{validOf}
 use Rattle.coprocessor.specs.Writes.{writeRefusal, writeAnswer}
 use Rattle.coprocessor.specs.Runs.{runRefusal, runAnswer, runMemory}
 use Rattle.coprocessor.specs.Images.{imageOf, loads, loaded, saves, saved}
-use Rattle.board.specs.Calls.{answerOf, freshImage, writeNumber, writeImage, runNumber, runImage, runBytes}
+use Rattle.board.specs.Calls.{callAnswer, freshImage, writeNumber, writeImage, runNumber, runImage, runBytes}
 use Rattle.theorems.specs.Held.{Held}
 use Rattle.theorems.specs.Totals.{leftIn}
 use Rattle.theorems.specs.LoadsTo.{LoadsTo}
@@ -107,8 +107,8 @@ image-written image w bytes e =
 -- ---- a run
 
 -- a refusal and a value of 32 bits are the two halves of their answer
-answer-halves : (r : Refusal) (v : ℕ) → v < 2 ^ 32 → (refusalIn (answerOf r v) ≡ refusalNumber r) × (valueIn (answerOf r v) ≡ v)
-unfolding answerOf refusalIn valueIn
+answer-halves : (r : Refusal) (v : ℕ) → v < 2 ^ 32 → (refusalIn (callAnswer r v) ≡ refusalNumber r) × (valueIn (callAnswer r v) ≡ v)
+unfolding callAnswer refusalIn valueIn
 answer-halves r v small = (digits-div (refusalNumber r) small, digits-mod (refusalNumber r) small)
 
 -- what a run answers, for an image that loads
@@ -151,7 +151,7 @@ image-ran image memory n bytes e =
 -- 01, The functions: a run over a memory of the state's size answers the smaller of the allowance and the positions left
 pub image-run-done : (image memory : List ℕ) (n : ℕ) → loads image ≡ true → length memory ≡ loaded image .size
     → runNumber image memory n ≡ min n (leftIn (loaded image))
-unfolding runNumber answerOf runAnswer
+unfolding runNumber callAnswer runAnswer
 image-run-done image memory n e same =
     let accepted = accepts (loaded image) memory same (loaded-valid image e) in
     let none : refusalNumber (runRefusal (loaded image) memory) ≡ 0 = eqb-true _ 0 (number-accepted (runRefusal (loaded image) memory) ∙ accepted) in

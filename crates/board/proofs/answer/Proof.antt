@@ -1,5 +1,5 @@
 -- `answer` is the refusal in the high word and the value in the low: both fit.
-use Rattle.board.specs.Calls.{answerOf}
+use Rattle.board.specs.Calls.{callAnswer}
 use borrow.Author.Needs.{needs}
 use Rattle.board.proofs.answer.Statement.{statement}
 use Rattle.board.proofs.answer.Tie as tie
@@ -17,7 +17,7 @@ add-result : tie.Need-add-result
 add-result c = search needs
 
 returns : tie.Need-returns
-unfolding answerOf
+unfolding callAnswer
 returns c = rw (c .number .ensures)
 
 pub answer-spec : {M : Type 1} → statement M

@@ -1,14 +1,17 @@
--- `xga_run` is the run of the record that the image is, saved back, or refusal 10 with image and memory as they were.
+-- `xga_run` is the run of the record that the image is, laid back, or refusal 10 with image and memory as they were; the record is valid before and after.
 use mathlib.Core.Path.{_≡_, sym, ap, _∙_}
+use mathlib.Core.Bool.{true}
 use borrow.Author.Tests.{not-true, not-false}
 use Rattle.parts.specs.Refusals.{isAccepted}
 use Rattle.coprocessor.specs.declared.Coprocessor.{Coprocessor}
 use Rattle.coprocessor.specs.declared.Written.{Written}
 use Rattle.coprocessor.specs.declared.Drawn.{Drawn}
 use Rattle.coprocessor.specs.Runs.{runAnswer, runMemory}
-use Rattle.coprocessor.specs.Images.{loads, loaded, saved}
-use Rattle.board.specs.Calls.{answerOf, runNumber, runImage, runBytes}
+use Rattle.coprocessor.specs.Images.{imageOf, loads, loaded}
 use Rattle.coprocessor.proofs.Opened.{opened-accepts, opened-record, opened-refused}
+use Rattle.laws.proofs.LoadedLaws.{loads-length, loaded-valid, saved-valid}
+use Rattle.laws.proofs.RunValid.{run-valid}
+use Rattle.board.specs.Calls.{callAnswer, runNumber, runImage, runBytes}
 use borrow.Author.Needs.{needs}
 use Rattle.board.proofs.xga_run.Statement.{statement}
 use Rattle.board.proofs.xga_run.Tie as tie
@@ -16,12 +19,12 @@ use Rattle.board.proofs.xga_run.Tie as tie
 opened : (c : tie.After-accepts) → c .accepts .result ≡ loads (c .before .before .before .before .before .args .image .now)
 opened c = c .accepts .ensures ∙ ap (λ (a : Written). isAccepted (a .refusal)) (c .before .unpack .ensures) ∙ opened-accepts _ _
 
--- the record that the run starts from
-begun : (c : tie.After-run) → c .before .before .before .before .before .unpack .result .coprocessor ≡ loaded (c .before .before .before .before .before .before .before .before .before .args .image .now)
-begun c = ap (λ (a : Written). a .coprocessor) (c .before .before .before .before .before .unpack .ensures) ∙ opened-record _ _ (sym (opened (c .before .before .before .before)) ∙ not-false _ (c .before .before .before .if1 .left))
+fine : (c : tie.After-state) → loads (c .before .before .before .before .before .before .before .args .image .now) ≡ true
+fine c = sym (opened (c .before .before)) ∙ not-false _ (c .before .if1 .left)
 
-drawn : (c : tie.After-run) → c .run .result ≡ runAnswer (loaded (c .before .before .before .before .before .before .before .before .before .args .image .now)) (c .before .before .before .before .before .before .before .before .before .args .memory .now) (c .before .before .before .before .before .before .before .before .before .args .allowance)
-drawn c = c .run .ensures .0 ∙ ap (λ (s : Coprocessor). runAnswer s (c .before .before .before .before .before .before .before .before .before .args .memory .now) (c .before .before .before .before .before .before .before .before .before .args .allowance)) (begun c)
+-- the record that the run starts from
+begun : (c : tie.After-state) → c .before .before .before .unpack .result .coprocessor ≡ loaded (c .before .before .before .before .before .before .before .args .image .now)
+begun c = ap (λ (a : Written). a .coprocessor) (c .before .before .before .unpack .ensures) ∙ opened-record _ _ (fine c)
 
 unpack-requires : tie.Need-unpack-requires
 unpack-requires c κs = search needs
@@ -36,15 +39,17 @@ same-length : tie.Need-same-length
 same-length c = search needs
 
 returns : tie.Need-returns
-unfolding runNumber runImage runBytes answerOf
-returns c = let closed = sym (opened (c .before .before)) ∙ not-true _ (c .before .if1 .taken) in
-    (simp closed (c .answer .ensures ∙ ap (λ r. answerOf r 0) (ap (λ (a : Written). a .refusal) (c .before .before .before .unpack .ensures) ∙ opened-refused _ _ closed)), simp closed, simp closed)
+unfolding runNumber runImage runBytes callAnswer
+returns c =
+    let closed = sym (opened (c .before .before)) ∙ not-true _ (c .before .if1 .taken) in
+    let refused = ap (λ (a : Written). a .refusal) (c .before .before .before .unpack .ensures) ∙ opened-refused _ _ closed in
+    (simp closed (c .answer .ensures ∙ ap (λ r. callAnswer r 0) refused), simp closed, simp closed)
 
-run-requires : tie.Need-run-requires
-run-requires c κs = search needs
+run-known-requires : tie.Need-run-known-requires
+run-known-requires c κs = rw (begun (c .before)) (loaded-valid _ (fine (c .before)))
 
-save-requires : tie.Need-save-requires
-save-requires c κs = search needs
+save-known-requires : tie.Need-save-known-requires
+save-known-requires c κs = loads-length _ (fine (c .before .before .before .before .before .before))
 
 answer-requires-2 : tie.Need-answer-requires-2
 answer-requires-2 c κs = search needs
@@ -57,8 +62,17 @@ same-length-3 c = search needs
 
 returns-2 : tie.Need-returns-2
 unfolding runNumber runImage runBytes
-returns-2 c = let fine = sym (opened (c .before .before .before .before .before .before .before .before .before .before .before .before)) ∙ not-false _ (c .before .before .before .before .before .before .before .before .before .before .before .if1 .left) in
-    (simp fine (c .answer2 .ensures ∙ ap (λ (a : Drawn). answerOf (a .refusal) (a .done)) (drawn (c .before .before .before .before .before .before .before .before))), simp fine (c .before .before .before .save .ensures .1 ∙ ap (λ (a : Drawn). saved (a .coprocessor) (c .before .before .before .before .before .before .before .before .before .before .before .before .before .before .before .before .before .args .image .now)) (drawn (c .before .before .before .before .before .before .before .before))), simp fine (c .before .before .before .before .before .before .before .before .run .ensures .1 ∙ ap (λ (s : Coprocessor). runMemory s (c .before .before .before .before .before .before .before .before .before .before .before .before .before .before .before .before .before .args .memory .now) (c .before .before .before .before .before .before .before .before .before .before .before .before .before .before .before .before .before .args .allowance)) (begun (c .before .before .before .before .before .before .before .before))))
+returns-2 c =
+    let state = c .before .before .before .before .before .before .before .before .before .before in
+    let good = fine state in
+    let a = c .before .before .before .before .before .before .before .before .before .before .before .before .before .before .before .before .before .args in
+    let ran = c .before .before .before .before .before .before .before .before .run-known .ensures in
+    let drawn = ran .0 ∙ ap (λ (s : Coprocessor). runAnswer s (a .memory .now) (a .allowance)) (begun state) in
+    let valid = run-valid (loaded (a .image .now)) (a .memory .now) (a .allowance) (loaded-valid _ good) in (
+      simp good (c .answer2 .ensures ∙ ap (λ (d : Drawn). callAnswer (d .refusal) (d .done)) drawn),
+      simp good (c .before .before .before .save-known .ensures ∙ ap (λ (d : Drawn). imageOf (d .coprocessor)) drawn ∙ sym (saved-valid _ _ (loads-length _ good) valid)),
+      simp good (ran .1 ∙ ap (λ (s : Coprocessor). runMemory s (a .memory .now) (a .allowance)) (begun state)),
+    )
 
 pub xga-run-spec : {M : Type 1} → statement M
 xga-run-spec =
@@ -69,8 +83,8 @@ xga-run-spec =
     answer-requires
     same-length
     returns
-    run-requires
-    save-requires
+    run-known-requires
+    save-known-requires
     answer-requires-2
     same-length-2
     same-length-3
