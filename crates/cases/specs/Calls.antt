@@ -16,38 +16,38 @@ use Rattle.image.specs.Counters.{countersOf}
 use Rattle.coprocessor.specs.Images.{saveRefusal, saved, loadAnswer}
 
 -- 01, Cases: a call with its answer, or what is then seen
-pub data Call : Type 0 where
+pub data Act : Type 0 where
   -- an accepted write
-  write : (offset length value : ℕ) → Call
+  write : (offset length value : ℕ) → Act
   -- a write that is refused with this number
-  refused : (offset length value number : ℕ) → Call
+  refused : (offset length value number : ℕ) → Act
   -- an accepted read that gives this value
-  read : (offset length value : ℕ) → Call
+  read : (offset length value : ℕ) → Act
   -- a read that is refused with this number, and gives 0
-  unread : (offset length number : ℕ) → Call
+  unread : (offset length number : ℕ) → Act
   -- an accepted run that does so many positions
-  run : (allowance done : ℕ) → Call
+  run : (allowance done : ℕ) → Act
   -- the state saved into 115 bytes, and those loaded into a fresh coprocessor of this size, where the play goes on
-  carried : (size : ℕ) → Call
+  carried : (size : ℕ) → Act
   -- the state saved into 115 bytes with one of them changed, and what a load of these answers; the play goes on with what it leaves
-  altered : (place byte number : ℕ) → Call
+  altered : (place byte number : ℕ) → Act
   -- a save into so many bytes that is refused with this number, and leaves them
-  unsaved : (length number : ℕ) → Call
+  unsaved : (length number : ℕ) → Act
   -- a load of these bytes that is refused with this number
-  unloaded : (bytes : List ℕ) (number : ℕ) → Call
+  unloaded : (bytes : List ℕ) (number : ℕ) → Act
   -- what a fresh state of this size answers
-  fresh : (size number : ℕ) → Call
+  fresh : (size number : ℕ) → Act
   -- these bytes are the memory
-  memory : (bytes : List ℕ) → Call
+  memory : (bytes : List ℕ) → Act
   -- the memory is no longer these bytes
-  changed : (bytes : List ℕ) → Call
+  changed : (bytes : List ℕ) → Act
   -- 01, State image: 9 state (0 idle, 1 drawing, 2 idle after stop; 02, 102: 3 drawing and inside)
-  state : (number : ℕ) → Call
+  state : (number : ℕ) → Act
 
 -- 01, Cases: the memory at first, and the calls in turn
 pub record Play : Type 0 where
   pub bytes : List ℕ
-  pub calls : List Call
+  pub calls : List Act
 
 -- a row of the table: the case's number in 01, and what is played for it
 pub record Case : Type 0 where
@@ -71,7 +71,7 @@ unfoldable pub written : ℕ → ℕ → ℕ → Coprocessor → Written
 written offset length value c = writeAnswer (record { offset = offset; length = length; value = value }) c
 
 -- whether each call has its answer, by what the coprocessor's calls promise
-unfoldable pub answers : List Call → Coprocessor → List ℕ → Bool
+unfoldable pub answers : List Act → Coprocessor → List ℕ → Bool
 answers [] c bytes = true
 answers (write offset length value ∷ calls) c bytes =
     isAccepted (written offset length value c .refusal) && answers calls (written offset length value c .coprocessor) bytes

@@ -1,17 +1,17 @@
 -- The worked cases of 01 as one table; registers that a case does not speak of are set so that something is drawn.
 use Prim.Native.Nat.{ℕ}
 use mathlib.Core.List.{List, [], _∷_, _++_}
-use Rattle.cases.specs.Calls.{Call, Play, Case, zeros, write, refused, read, run, memory, state}
+use Rattle.cases.specs.Calls.{Act, Play, Case, zeros, write, refused, read, run, memory, state}
 
 -- ---- what the cases share
 
 -- a map's registers: 0 is M, 1 is A, 2 is B
-unfoldable pub mapped : (index base width height format : ℕ) → List Call
+unfoldable pub mapped : (index base width height format : ℕ) → List Act
 mapped index base width height format =
     write 0x12 1 index ∷ write 0x14 4 base ∷ write 0x18 2 width ∷ write 0x1A 2 height ∷ write 0x1C 1 format ∷ []
 
 -- a foreground mix and colour under a plane mask; the compare condition is never true
-unfoldable pub inked : (mix planes colour : ℕ) → List Call
+unfoldable pub inked : (mix planes colour : ℕ) → List Act
 inked mix planes colour = write 0x48 1 mix ∷ write 0x50 4 planes ∷ write 0x58 4 colour ∷ write 0x4A 1 4 ∷ []
 
 -- a line of dimension 0 over one pixel of this format: S is the foreground colour, D the memory
@@ -60,7 +60,7 @@ codes offset length steps positions x y end seen =
     }
 
 -- 8 by 8 bytes from this base on in 64 bytes, and the write that starts
-unfoldable pub based : ℕ → Call → Play
+unfoldable pub based : ℕ → Act → Play
 based base start = record { bytes = zeros 64; calls = mapped 1 base 7 7 3 ++ (start ∷ []) }
 
 -- ---- the table

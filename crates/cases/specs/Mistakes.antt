@@ -1,7 +1,7 @@
 -- 01, Easy ways to draw it wrong, and other mistakes that somebody could make: a play for each that tells the right answer from the wrong one.
 use Prim.Native.Nat.{ℕ, _+_}
 use mathlib.Core.List.{List, [], _∷_, _++_}
-use Rattle.cases.specs.Calls.{Call, Play, zeros, write, refused, read, unread, run, carried, altered, unsaved, unloaded, fresh, memory, state}
+use Rattle.cases.specs.Calls.{Act, Play, zeros, write, refused, read, unread, run, carried, altered, unsaved, unloaded, fresh, memory, state}
 use Rattle.cases.specs.Cases.{mapped, inked, codes}
 
 -- ---- drawings
@@ -11,7 +11,7 @@ unfoldable pub stillCode : Play
 stillCode = codes 0x2C 4 0x00001020 2 17 10 2 (zeros 10 ++ (0x02 ∷ []))
 
 -- a map of so many bytes in a row, all of memory, and a mix and colour
-unfoldable pub row : (width mix colour : ℕ) → List Call
+unfoldable pub row : (width mix colour : ℕ) → List Act
 row width mix colour = mapped 1 0 width 0 3 ++ inked mix 0xFF colour
 
 -- 01, Registers: only codes in that write are run, not those of an earlier one
@@ -121,7 +121,7 @@ onePosition =
 -- ---- area boundaries and fills
 
 -- the line of case 4 in drawing mode 11, in this octant from this row on, over four by two bytes
-unfoldable pub boundary : (octant y : ℕ) → List Call
+unfoldable pub boundary : (octant y : ℕ) → List Act
 boundary octant y =
     mapped 1 0 3 1 3
     ++ inked 3 0xFF 0xAA
@@ -175,7 +175,7 @@ boundaryLeft =
     }
 
 -- a fill by the outline in the first byte, four pixels in a row, of as many bytes behind it; nothing is drawn outside
-unfoldable pub fill : (rows : ℕ) → List Call
+unfoldable pub fill : (rows : ℕ) → List Act
 fill rows =
     mapped 2 0 3 rows 0
     ++ mapped 1 1 3 rows 3

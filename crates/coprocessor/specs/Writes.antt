@@ -30,8 +30,10 @@ stored w c =
     }
 
 -- 01, Registers: a write covering 7F starts the stored function, except draw and step; one covering 2F starts draw and step if that is stored
-unfoldable pub startsBy : Write → ℕ → Bool
-startsBy w operations = (covers w 0x7F && (isLine operations || isBlock operations)) || (covers w 0x2F && isCodes operations)
+unfoldable pub startsBy : Write → Coprocessor → Bool
+startsBy w c =
+    (covers w 0x7F && (isLine (c .registers .figure .operations) || isBlock (c .registers .figure .operations)))
+    || (covers w 0x2F && isCodes (c .registers .figure .operations))
 
 -- 01, Maps and pointers: used pointers are turned into their maps; 01, Registers: the drawing in hand, by as many codes as the write has bytes
 unfoldable pub started : ℕ → Coprocessor → Coprocessor
@@ -46,7 +48,7 @@ started length c =
 
 -- 01, Numbers a call answers with: 5 to 8 are asked at a start only, of the registers after the write
 unfoldable pub startedRefusal : Write → Coprocessor → Refusal
-startedRefusal w c = choose (startsBy w (c .registers .figure .operations)) (startRefusalOf c) Accepted
+startedRefusal w c = choose (startsBy w c) (startRefusalOf c) Accepted
 
 -- 01, Numbers a call answers with: the lowest of 1, 2, 3 and 4, of 5 to 8 at a start, and of 10
 unfoldable pub writeRefusal : Write → Coprocessor → Refusal
@@ -61,7 +63,7 @@ writeRefusal w c =
 
 -- 01, Registers: the record that an accepted write leaves, from the one with its registers stored
 unfoldable pub settledBy : Write → Coprocessor → Coprocessor
-settledBy w c = choose (startsBy w (c .registers .figure .operations)) (started (w .length) c) c
+settledBy w c = choose (startsBy w c) (started (w .length) c) c
 
 -- 01, Numbers a call answers with: a refused write stores nothing, not even the register
 unfoldable pub writeAnswer : Write → Coprocessor → Written

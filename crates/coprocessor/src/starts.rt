@@ -18,22 +18,23 @@ pub(crate) const OPERATIONS_START: u8 = 0x7F;
 // The highest byte of the direction steps, whose write starts draw and step.
 const STEPS_START: u8 = 0x2F;
 
-// Whether the write, already stored, starts a drawing by these operations.
-fn starts(w: Write, operations: u32) -> bool
-    ensures { λ r. ⌜ r ≡ startsBy w operations ⌝ }
-{
-    let drawn = is_line(operations) | is_block(operations);
-    let by_operations = touches(1, OPERATIONS_START, w) & drawn;
-    let by_steps = touches(1, STEPS_START, w) & is_codes(operations);
-    by_operations | by_steps
-}
-
 impl Coprocessor {
+    // Whether the write, already stored, starts a drawing.
+    fn starts(self, w: Write) -> bool
+        ensures { λ r. ⌜ r ≡ startsBy w self ⌝ }
+    {
+        let operations = self.registers.figure.operations;
+        let drawn = is_line(operations) | is_block(operations);
+        let by_operations = touches(1, OPERATIONS_START, w) & drawn;
+        let by_steps = touches(1, STEPS_START, w) & is_codes(operations);
+        by_operations | by_steps
+    }
+
     // Refusals 5 to 8 of the registers after the write, where it starts a drawing.
     pub(crate) fn started_refusal(self, w: Write) -> Refusal
         ensures { λ r. ⌜ r ≡ startedRefusal w self ⌝ }
     {
-        if starts(w, self.registers.figure.operations) {
+        if self.starts(w) {
             self.start_refusal()
         } else {
             Refusal::Accepted
@@ -62,7 +63,7 @@ impl Coprocessor {
         requires { ⌜ w .length ≤ 4 ⌝ }
         ensures { λ r. ⌜ r ≡ settledBy w self ⌝ }
     {
-        if starts(w, self.registers.figure.operations) {
+        if self.starts(w) {
             self.start(w.length as u8)
         } else {
             self

@@ -1,7 +1,6 @@
 -- What an accepted write says of the write and the record: each test that could refuse it was passed, in the order of the refusals; so what a write leaves is one of three records.
 use mathlib.Core.Path.{_≡_, refl}
 use mathlib.Core.Bool.{Bool, true, false, not, _&&_, _||_}
-use Prim.Native.Nat.{ℕ}
 use Rattle.numbers.specs.Bytes.{covers}
 use Rattle.numbers.specs.declared.bytes.Write.{Write}
 use Rattle.numbers.proofs.Choices.{by-test}
@@ -53,16 +52,13 @@ some-function true false false false false e = e
 some-function false true false false false e = e
 some-function false false false false false e = e
 
-pub start-draws : (w : Write) (operations : ℕ) → startsBy w operations ≡ true → draws operations ≡ true
+pub start-draws : (w : Write) (c : Coprocessor) → startsBy w c ≡ true → draws (c .registers .figure .operations) ≡ true
 unfolding startsBy draws
-start-draws w operations = some-function (covers w 0x7F) (covers w 0x2F) (isLine operations) (isCodes operations) (isBlock operations)
+start-draws w c =
+    let operations = c .registers .figure .operations in
+    some-function (covers w 0x7F) (covers w 0x2F) (isLine operations) (isCodes operations) (isBlock operations)
 
--- whether the write starts a drawing on the record that it is stored in
-abbrev pub starting : Write → Coprocessor → Bool
-starting w c = startsBy w (stored w c .registers .figure .operations)
-
-pub start-rules : (w : Write) (c : Coprocessor) → isAccepted (startedRefusal w (stored w c)) ≡ true → starting w c ≡ true
-    → isAccepted (startRefusalOf (stored w c)) ≡ true
+pub start-rules : (w : Write) (c : Coprocessor) → isAccepted (startedRefusal w c) ≡ true → startsBy w c ≡ true → isAccepted (startRefusalOf c) ≡ true
 unfolding startedRefusal
 start-rules w c e starts = rw starts at e
 
@@ -70,9 +66,9 @@ start-rules w c e starts = rw starts at e
 
 -- what holds of the record, of the one with the write stored, and of the one with a drawing started, holds of what the write leaves
 pub by-write : (w : Write) (c : Coprocessor) (P : Coprocessor → Type 0) → (isAccepted (writeRefusal w c) ≡ false → P c)
-    → (isAccepted (writeRefusal w c) ≡ true → starting w c ≡ false → P (stored w c))
-    → (isAccepted (writeRefusal w c) ≡ true → starting w c ≡ true → P (started (w .length) (stored w c)))
+    → (isAccepted (writeRefusal w c) ≡ true → startsBy w (stored w c) ≡ false → P (stored w c))
+    → (isAccepted (writeRefusal w c) ≡ true → startsBy w (stored w c) ≡ true → P (started (w .length) (stored w c)))
     → P (writeAnswer w c .coprocessor)
 unfolding settledBy writeAnswer
 by-write w c P refused rests starts =
-    by-test P (isAccepted (writeRefusal w c)) (λ e. by-test P (starting w c) (starts e) (rests e)) refused
+    by-test P (isAccepted (writeRefusal w c)) (λ e. by-test P (startsBy w (stored w c)) (starts e) (rests e)) refused

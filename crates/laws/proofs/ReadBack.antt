@@ -21,10 +21,10 @@ use Rattle.parts.proofs.TakeLaws.{low-untouched}
 use Rattle.rules.specs.Maps.{mapAt}
 use Rattle.image.specs.Bank.{mapValues, otherValues, valuesOf}
 use Rattle.coprocessor.specs.declared.Coprocessor.{Coprocessor}
-use Rattle.coprocessor.specs.Writes.{stored, settledBy, writeRefusal, writeAnswer}
+use Rattle.coprocessor.specs.Writes.{stored, startsBy, settledBy, writeRefusal, writeAnswer}
 use Rattle.laws.specs.Held.{Held}
 use Rattle.laws.specs.ReadBack.{registerAt, shown, shownAfter}
-use Rattle.laws.proofs.AcceptedWrites.{accepted-allowed, starting}
+use Rattle.laws.proofs.AcceptedWrites.{accepted-allowed}
 use Rattle.laws.proofs.MapsLaws.{map-selected}
 use Rattle.laws.proofs.ValidWrites.{write-valid}
 use Rattle.laws.proofs.HeldWrites.{held-written}
@@ -92,7 +92,7 @@ module _ (w : Write) (c : Coprocessor) (held : Held c) (unmoved : touched 1 0x12
       ∷ []
 
 -- 01, Registers: a register reads back what was written, reduced; the selected map's registers, where the write leaves the index alone
-pub read-after-write : (w : Write) (c : Coprocessor) → Held c → isAccepted (writeRefusal w c) ≡ true → starting w c ≡ false
+pub read-after-write : (w : Write) (c : Coprocessor) → Held c → isAccepted (writeRefusal w c) ≡ true → startsBy w (stored w c) ≡ false
     → touched 1 0x12 w ≡ false → (i : ℕ) → i < 28
     → shown (writeAnswer w c .coprocessor) (registerAt i) ≡ shownAfter w (registerAt i) (shown c (registerAt i))
 unfolding selected others registers registerAt mapValues otherValues valuesOf settledBy writeAnswer

@@ -77,8 +77,8 @@ write-valid w c valid =
     (λ accepted none. valid-by (stored w c) size reduced (idle-goes-on (stored w c) (accepted-allowed w c accepted .idle)))
     (λ accepted starts.
     let allowed = accepted-allowed w c accepted in
-    let drawing = start-draws w (stored w c .registers .figure .operations) starts in
-    let rules = start-rules w c (allowed .rules) starts in
+    let drawing = start-draws w (stored w c) starts in
+    let rules = start-rules w (stored w c) (allowed .rules) starts in
     valid-by (started (w .length) (stored w c)) size (started-reduced (w .length) (stored w c) reduced)
     (started-goes-on (w .length) (stored w c) drawing (search (allowed .place, and-left)) rules))
   where

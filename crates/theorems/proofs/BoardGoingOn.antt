@@ -19,7 +19,7 @@ use Rattle.theorems.specs.Totals.{totalIn}
 use Rattle.theorems.specs.LoadsTo.{LoadsTo}
 use Rattle.theorems.specs.Cuts.{Event, Stand, standing, happened, lived, Spares, Undisturbed, allowanceOf, allowed, WentOn}
 use Rattle.theorems.specs.BoardCuts.{refusalIn, valueIn, Call, BoardStand, boardStanding, called, calledAll, BoardSpares, BoardUndisturbed, allowanceIn, allowedBy, BoardWentOn}
-use Rattle.theorems.proofs.LoadedLaws.{held-loaded}
+use Rattle.laws.proofs.LoadedLaws.{held-loaded}
 use Rattle.theorems.proofs.GoingOn.{drawing-goes-on}
 use Rattle.theorems.proofs.BoardLaws.{one-image, image-written, image-ran, image-run-answer, memory-ran}
 

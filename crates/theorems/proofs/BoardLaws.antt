@@ -24,18 +24,18 @@ use Rattle.coprocessor.specs.Writes.{writeRefusal, writeAnswer}
 use Rattle.coprocessor.specs.Runs.{runRefusal, runAnswer, runMemory}
 use Rattle.coprocessor.specs.Images.{imageOf, loads, loaded, saves, saved}
 use Rattle.board.specs.Calls.{callAnswer, freshImage, writeNumber, writeImage, runNumber, runImage, runBytes}
-use Rattle.theorems.specs.Held.{Held}
+use Rattle.laws.specs.Held.{Held}
 use Rattle.theorems.specs.Totals.{leftIn}
 use Rattle.theorems.specs.LoadsTo.{LoadsTo}
 use Rattle.theorems.specs.BoardCuts.{refusalIn, valueIn}
-use Rattle.theorems.proofs.Refused.{write-refused, run-refused, fresh-answer-valid}
-use Rattle.theorems.proofs.ValidWrites.{write-valid}
-use Rattle.theorems.proofs.HeldWrites.{held-fresh, held-written}
-use Rattle.theorems.proofs.RunValid.{run-valid}
+use Rattle.laws.proofs.Refused.{write-refused, run-refused, fresh-answer-valid}
+use Rattle.laws.proofs.ValidWrites.{write-valid}
+use Rattle.laws.proofs.HeldWrites.{held-fresh, held-written}
+use Rattle.laws.proofs.RunValid.{run-valid}
 use Rattle.theorems.proofs.RunCalls.{Continued, accepts, run-done, done-le, run-run}
-use Rattle.theorems.proofs.ImageLaws.{length-image, loaded-image, loads-image}
-use Rattle.theorems.proofs.LoadedLaws.{loaded-valid, image-loaded, save-load, held-loaded}
-use Rattle.theorems.proofs.HeldRuns.{held-run}
+use Rattle.laws.proofs.ImageLaws.{length-image, loaded-image, loads-image}
+use Rattle.laws.proofs.LoadedLaws.{loaded-valid, image-loaded, save-load, held-loaded}
+use Rattle.laws.proofs.HeldRuns.{held-run}
 
 -- ---- the image of a record
 
@@ -54,10 +54,10 @@ pub image-small : (c : Coprocessor) (i : ℕ) → getD (imageOf c) i 0 < 256
 unfolding imageOf
 image-small c = laid-bytes _
 
-saved-loads : (c : Coprocessor) (image : List ℕ) → length image ≡ 115 → Held c → validOf c ≡ true → LoadsTo (saved c image) c
+saved-loads : (c : Coprocessor) (image : List ℕ) → length image ≡ imageLength → Held c → validOf c ≡ true → LoadsTo (saved c image) c
 unfolding saved saves
 saved-loads c image long held v =
-    rw (eq-eqb (length image) 115 long, v) (record { bytes = image-small c; accepted = loads-image c held v; record-same = loaded-image c held v })
+    rw (eq-eqb (length image) imageLength long, v) (record { bytes = image-small c; accepted = loads-image c held v; record-same = loaded-image c held v })
 
 -- a record has one image
 pub one-image : {a b : List ℕ} {c d : Coprocessor} → LoadsTo a c → c ≡ d → LoadsTo b d → a ≡ b
@@ -67,7 +67,7 @@ one-image {a} {b} p same q =
 -- ---- a fresh image
 
 -- 01, refusals 9 and 10: a buffer of 115 bytes takes the fresh state, one of size 1 where the size is refused
-pub image-fresh : (image : List ℕ) (size : ℕ) → length image ≡ 115 → LoadsTo (freshImage image size) (freshAnswer size .coprocessor)
+pub image-fresh : (image : List ℕ) (size : ℕ) → length image ≡ imageLength → LoadsTo (freshImage image size) (freshAnswer size .coprocessor)
 unfolding freshAnswer freshImage
 image-fresh image size long = saved-loads _ image long held (fresh-answer-valid size)
   where
@@ -77,7 +77,7 @@ image-fresh image size long = saved-loads _ image long held (fresh-answer-valid 
 -- ---- the image with a record saved over it
 
 module _ (image : List ℕ) (bytes : (i : ℕ) → getD image i 0 < 256) where
-  long : loads image ≡ true → length image ≡ 115
+  long : loads image ≡ true → length image ≡ imageLength
   long e = ap length (sym (image-loaded image e bytes)) ∙ length-image (loaded image)
 
   -- the image stays where its record does

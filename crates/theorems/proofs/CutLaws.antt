@@ -14,12 +14,12 @@ use Rattle.coprocessor.specs.Writes.{writeAnswer}
 use Rattle.coprocessor.specs.Runs.{ranOf, runRefusal, runAnswer, runMemory}
 use Rattle.coprocessor.specs.Images.{saves, saveRefusal}
 use Rattle.coprocessor.proofs.SafeLaws.{run-allowed}
-use Rattle.theorems.specs.Held.{Held}
+use Rattle.laws.specs.Held.{Held}
 use Rattle.theorems.specs.Cuts.{Event, Stand, standing, happened, lived, Spares, Undisturbed, allowanceOf, allowed}
-use Rattle.theorems.proofs.HeldRuns.{held-run}
-use Rattle.theorems.proofs.ImageLaws.{load-save}
-use Rattle.theorems.proofs.Refused.{write-refused}
-use Rattle.theorems.proofs.RunValid.{with-pen-own, run-valid}
+use Rattle.laws.proofs.HeldRuns.{held-run}
+use Rattle.laws.proofs.ImageLaws.{load-save}
+use Rattle.laws.proofs.Refused.{write-refused}
+use Rattle.laws.proofs.RunValid.{with-pen-own, run-valid}
 use Rattle.theorems.proofs.RunCalls.{Continued, run-accepted, none-done, run-run}
 
 -- ---- an event that spares the drawing
@@ -51,12 +51,12 @@ module _ (c : Coprocessor) (memory : List ℕ) (held : Held c) (accepted : isAcc
       let on : Continued c memory n a (runAnswer c memory n) (runMemory c memory n) = run-run c memory n a accepted in
       λ i. record { coprocessor = on .record-same i; memory = on .memory-same i; done = on .done-sum i; accepted = on .accepted i }
 
-  moved-along : (n : ℕ) (other : Coprocessor) (buffer : List ℕ) (long : length buffer ≡ 115) → happened (Event.movedTo other buffer long) (ran n) ≡ ran n
+  moved-along : (n : ℕ) (other : Coprocessor) (buffer : List ℕ) (long : length buffer ≡ imageLength) → happened (Event.movedTo other buffer long) (ran n) ≡ ran n
   unfolding happened saves saveRefusal
   moved-along n other buffer long =
       let valid = run-valid c memory n (run-allowed c memory accepted .1) in
       let same = load-save (runAnswer c memory n .coprocessor) other buffer (held-run c memory n held) valid long in
-      rw (eq-eqb (length buffer) 115 long, valid, same) refl
+      rw (eq-eqb (length buffer) imageLength long, valid, same) refl
 
   -- no position is none
   run-none : ran 0 ≡ standing c memory

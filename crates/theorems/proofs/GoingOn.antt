@@ -15,16 +15,16 @@ use Rattle.coprocessor.specs.Valid.{validOf}
 use Rattle.coprocessor.specs.Writes.{stored, startsBy, writeRefusal, writeAnswer}
 use Rattle.coprocessor.specs.Runs.{runRefusal, runAnswer}
 use Rattle.coprocessor.proofs.SafeLaws.{run-allowed}
-use Rattle.theorems.specs.Held.{Held}
+use Rattle.laws.specs.Held.{Held}
 use Rattle.theorems.specs.Totals.{totalIn, leftIn}
 use Rattle.theorems.specs.Cuts.{Event, standing, lived, Undisturbed, allowed, WentOn}
-use Rattle.theorems.proofs.AcceptedWrites.{accepted-allowed}
+use Rattle.laws.proofs.AcceptedWrites.{accepted-allowed}
 use Rattle.theorems.proofs.CutLaws.{cuts}
-use Rattle.theorems.proofs.HeldWrites.{held-written}
+use Rattle.laws.proofs.HeldWrites.{held-written}
 use Rattle.theorems.proofs.RunCalls.{accepts, run-done, run-left, same-answer, same-memory}
-use Rattle.theorems.proofs.RunValid.{run-valid}
+use Rattle.laws.proofs.RunValid.{run-valid}
 use Rattle.theorems.proofs.TotalsAtStart.{start-total, left-none}
-use Rattle.theorems.proofs.ValidWrites.{write-valid}
+use Rattle.laws.proofs.ValidWrites.{write-valid}
 
 -- a run leaves the drawing idle exactly where the allowance reaches the positions left
 idle-at : (c : Coprocessor) (memory : List ℕ) (n : ℕ) → isAccepted (runRefusal c memory) ≡ true

@@ -1,38 +1,59 @@
 -- The drawings of one position do what they should: each is computed from what the calls promise.
 use mathlib.Core.Path.{_≡_, refl}
 use mathlib.Core.Bool.{true}
-use Rattle.numbers.specs.Bytes.{numberOf, byteOf, partOf, covers, latchedBytes, latched}
-use Rattle.numbers.specs.Circles.{forth, back, residue, circle}
+use Rattle.numbers.specs.Bytes.{byteOf, covers, latched, latchedBytes, le, numberOf, partOf}
+use Rattle.numbers.specs.Circles.{back, circle, forth, residue}
 use Rattle.numbers.specs.Fields.{field, withField}
-use Rattle.pixels.specs.Maps.{bitsOf, startOf, placeOf, shiftOf, neededOf}
+use Rattle.mixes.specs.Conditions.{conditionHolds, holdsOf}
+use Rattle.mixes.specs.Mixes.{arithmetic, depthOf, gathered, logical, merged, mixed, scattered, tableBit, worked}
+use Rattle.pixels.specs.Maps.{bitsOf, neededOf, placeOf, shiftOf, startOf}
 use Rattle.pixels.specs.Pixels.{byteAt, pixelAt, withPixel}
-use Rattle.mixes.specs.Conditions.{holdsOf, conditionHolds}
-use Rattle.mixes.specs.Mixes.{tableBit, logical, gathered, scattered, worked, arithmetic, merged, mixed}
-use Rattle.parts.specs.Latches.{touched, taken, takenLow, takenTerm, takenDestination}
 use Rattle.parts.specs.Drawings.{insideOf, withInside}
-use Rattle.parts.specs.Reduced.{mapReduced, termReduced, termsReduced, compareReduced, pointReduced, destinationReduced, spotReduced}
-use Rattle.parts.specs.Registers.{registers, among, listed, placed}
-use Rattle.parts.specs.Shapes.{mapTaken, termsTaken, inkTaken, compareTaken, pointTaken, spotTaken}
-use Rattle.rules.specs.Going.{noneStopped, countersHold, pointersHold}
-use Rattle.rules.specs.Maps.{mapAt, formatHolds, endHolds, isInside, isOneBit}
-use Rattle.rules.specs.Operations.{isMap, isLine, isCodes, isBlock, draws, sourceIsColour, usesSource, usesPattern, usesMask, isFill, modeOf}
-use Rattle.rules.specs.Rules.{isSource, isPattern, fieldsHold, mixesHold, usedMaps, formatsHold, endsHold, startRefusal, fillHolds}
-use Rattle.rules.specs.Starts.{turned, sourceStarted, patternStarted, codeAt, drawingStarted}
-use Rattle.moves.specs.Decoded.{signOf, courseOf, flowOf, edgeOf}
-use Rattle.moves.specs.Moves.{sourceBy, destinationBy, penStepped, penWith, penGone, lineError, lineMoved, codePassed, codesMoved, columnPassed, rowPoint, rowSpot, rowPassed, blockMoved, movedBy, moved, rises}
-use Rattle.moves.specs.Steps.{lineStep, codeStep}
-use Rattle.moves.specs.Turns.{opposite, turnedBy, circledBy, pointStepped, spotStepped}
-use Rattle.position.specs.Drawn.{sourcePixel, isForeground, inkOf, picked, mixedPixel, drawnBy, drawn, isOne, insideAt, crossed}
-use Rattle.position.specs.Fates.{destinationPixel, onZero, isCompared, fateOf}
-use Rattle.places.specs.Places.{isWithin, columnOf, onMap, maskX, maskY, inMask, isMove, isFirst, isLast, nulledBy, isNulled, placeX}
-use Rattle.runs.specs.Runs.{begun, positioned, stepped, after}
-use Rattle.coprocessor.specs.Fresh.{sizeHolds, freshOf, freshAnswer}
-use Rattle.coprocessor.specs.Runs.{setupOf, penOf, withPen, ranOf, runRefusal, runAnswer, runMemory}
-use Rattle.coprocessor.specs.Valid.{startRefusalOf, mapsReduced, pointersReduced, reducedOf, goesOn, validOf}
-use Rattle.coprocessor.specs.Writes.{stored, startsBy, started, startedRefusal, writeRefusal, settledBy, writeAnswer}
-use Rattle.cases.specs.Calls.{same, zeros, written, answers, played}
-use Rattle.theorems.specs.Lively.{startFor, live, byMix, bySize, everyDrawing, allPlayed}
+use Rattle.parts.specs.Fresh.{freshRegisters}
+use Rattle.parts.specs.Latches.{coloursLatched, compareLatched, figureLatched, inkLatched, mapLatched, pointLatched, pointersLatched, registersLatched}
+use Rattle.parts.specs.Latches.{spotLatched, termsLatched}
+use Rattle.parts.specs.Moved.{withMoved}
+use Rattle.parts.specs.Reduced.{coloursReduced, destinationReduced, figureReduced, mapReduced, pointReduced, pointersReduced, registersReduced}
+use Rattle.parts.specs.Reduced.{spotReduced, termReduced, termsReduced}
+use Rattle.parts.specs.Registers.{among, listed, others, placed, registers, selected}
+use Rattle.parts.specs.Takes.{taken, takenOnto, touched}
+use Rattle.rules.specs.Codes.{codeAt, noneStopped}
+use Rattle.rules.specs.Going.{countersHold, pointersHold}
+use Rattle.rules.specs.Maps.{endHolds, formatHolds, isInside, isOneBit, mapAt}
+use Rattle.rules.specs.Operations.{draws, isBlock, isCodes, isFill, isLine, isMap, modeOf, sourceIsColour, usesMask, usesPattern, usesSource}
+use Rattle.rules.specs.Rules.{endsHold, fieldsHold, fillHolds, formatsHold, isPattern, isSource, mixesHold, startRefusal, usedMaps}
+use Rattle.rules.specs.Starts.{drawingStarted, pointersStarted, turned}
+use Rattle.moves.specs.Decoded.{courseOf, signOf, travelOf}
+use Rattle.moves.specs.Moves.{blockMoved, codePassed, codesMoved, columnPassed, destinationBy, lineError, lineMoved, moved, movedBy, penGone}
+use Rattle.moves.specs.Moves.{penStepped, penWith, rises, rowPassed, rowPoint, rowSpot, sourceBy}
+use Rattle.moves.specs.Steps.{codeStep, lineStep}
+use Rattle.moves.specs.Turns.{circledBy, opposite, pointStepped, spotStepped, turnedBy}
+use Rattle.places.specs.Decoded.{brushOf, edgeOf, flowOf}
+use Rattle.places.specs.Places.{columnOf, inMask, isFirst, isLast, isMove, isNulled, isWithin, maskX, maskY, nulledBy, onMap, placeX}
+use Rattle.position.specs.Drawn.{crossed, drawn, drawnBy, inkOf, insideAt, isForeground, isOne, mixedPixel, picked, sourcePixel}
+use Rattle.position.specs.Fates.{destinationPixel, fateOf, isCompared, onZero}
+use Rattle.runs.specs.Runs.{after, begun, positioned, stepped}
+use Rattle.image.specs.Bank.{bankOf, laidAt, mapValues, otherValues, readFrom, valuesOf}
+use Rattle.coprocessor.specs.Fresh.{freshAnswer, freshOf, sizeHolds}
+use Rattle.coprocessor.specs.Runs.{penOf, ranOf, runAnswer, runMemory, runRefusal, setupOf, withPen}
+use Rattle.coprocessor.specs.Valid.{goesOn, mapsReduced, reducedOf, startRefusalOf, validOf}
+use Rattle.coprocessor.specs.Writes.{settledBy, started, startedRefusal, startsBy, stored, writeAnswer, writeRefusal}
+use Rattle.cases.specs.Calls.{answers, played, same, written, zeros}
+use Rattle.theorems.specs.Lively.{allPlayed, byMix, bySize, everyDrawing, live, startFor}
 
 pub lively : allPlayed everyDrawing ≡ true
-unfolding numberOf byteOf partOf covers latchedBytes latched forth back residue circle field withField bitsOf startOf placeOf shiftOf neededOf byteAt pixelAt withPixel holdsOf conditionHolds tableBit logical gathered scattered worked arithmetic merged mixed touched taken takenLow takenTerm takenDestination mapReduced termReduced termsReduced compareReduced pointReduced destinationReduced spotReduced registers among listed placed mapTaken termsTaken inkTaken compareTaken pointTaken spotTaken noneStopped countersHold pointersHold mapAt formatHolds endHolds isInside isMap isLine isCodes isBlock draws sourceIsColour usesSource usesPattern usesMask isSource isPattern fieldsHold mixesHold usedMaps formatsHold endsHold startRefusal turned sourceStarted patternStarted codeAt drawingStarted signOf courseOf flowOf sourceBy destinationBy penStepped penWith penGone lineError lineMoved codePassed codesMoved columnPassed rowPoint rowSpot rowPassed blockMoved movedBy moved lineStep codeStep opposite turnedBy circledBy pointStepped spotStepped sourcePixel isForeground inkOf picked mixedPixel drawnBy drawn destinationPixel onZero isCompared fateOf isWithin columnOf onMap maskX maskY inMask isMove isFirst isLast nulledBy isNulled begun positioned stepped after sizeHolds freshOf freshAnswer setupOf penOf withPen ranOf runRefusal runAnswer runMemory startRefusalOf mapsReduced pointersReduced reducedOf goesOn validOf stored startsBy started startedRefusal writeRefusal settledBy writeAnswer same written answers played allPlayed startFor live byMix bySize everyDrawing zeros insideOf withInside isFill modeOf fillHolds edgeOf rises placeX isOne insideAt crossed isOneBit
+unfolding numberOf byteOf partOf covers latchedBytes latched forth back residue circle field withField bitsOf startOf placeOf shiftOf neededOf byteAt
+    pixelAt withPixel holdsOf conditionHolds tableBit logical gathered scattered worked arithmetic merged mixed touched taken mapReduced
+    termReduced termsReduced pointReduced destinationReduced spotReduced registers among listed placed noneStopped countersHold pointersHold
+    mapAt formatHolds endHolds isInside isMap isLine isCodes isBlock draws sourceIsColour usesSource usesPattern usesMask isSource isPattern
+    fieldsHold mixesHold usedMaps formatsHold endsHold startRefusal turned codeAt drawingStarted signOf courseOf flowOf sourceBy destinationBy
+    penStepped penWith penGone lineError lineMoved codePassed codesMoved columnPassed rowPoint rowSpot rowPassed blockMoved movedBy moved
+    lineStep codeStep opposite turnedBy circledBy pointStepped spotStepped sourcePixel isForeground inkOf picked mixedPixel drawnBy drawn
+    destinationPixel onZero isCompared fateOf isWithin columnOf onMap maskX maskY inMask isMove isFirst isLast nulledBy isNulled begun
+    positioned stepped after sizeHolds freshOf freshAnswer setupOf penOf withPen ranOf runRefusal runAnswer runMemory startRefusalOf mapsReduced
+    pointersReduced reducedOf goesOn validOf stored startsBy started startedRefusal writeRefusal settledBy writeAnswer same written answers
+    played allPlayed startFor live byMix bySize everyDrawing zeros insideOf withInside isFill modeOf fillHolds edgeOf rises placeX isOne
+    insideAt crossed isOneBit takenOnto mapLatched termsLatched inkLatched compareLatched pointLatched spotLatched coloursLatched figureLatched
+    pointersLatched registersLatched coloursReduced figureReduced registersReduced selected others freshRegisters withMoved pointersStarted
+    travelOf brushOf depthOf mapValues otherValues valuesOf laidAt bankOf readFrom le
 lively = refl

@@ -20,15 +20,15 @@ use Rattle.coprocessor.specs.Runs.{setupOf, penOf, ranOf, runRefusal}
 use Rattle.coprocessor.specs.Images.{loaded, loadAnswer}
 use Rattle.coprocessor.proofs.SafeLaws.{run-safe}
 use Rattle.coprocessor.proofs.Opened.{opened-accepts, opened-record}
-use Rattle.theorems.specs.Held.{Held}
+use Rattle.laws.specs.Held.{Held}
 use Rattle.theorems.specs.Cuts.{Event, Stand, standing, lived, Undisturbed, allowed}
 use Rattle.theorems.specs.Reach.{NoneBeyond}
-use Rattle.theorems.proofs.AcceptedWrites.{accepted-allowed}
+use Rattle.laws.proofs.AcceptedWrites.{accepted-allowed}
 use Rattle.theorems.proofs.CutLaws.{cuts}
-use Rattle.theorems.proofs.HeldWrites.{held-written}
-use Rattle.theorems.proofs.LoadedLaws.{loaded-valid, held-loaded}
+use Rattle.laws.proofs.HeldWrites.{held-written}
+use Rattle.laws.proofs.LoadedLaws.{loaded-valid, held-loaded}
 use Rattle.theorems.proofs.RunCalls.{accepts, run-accepted, accepted-again}
-use Rattle.theorems.proofs.ValidWrites.{write-valid}
+use Rattle.laws.proofs.ValidWrites.{write-valid}
 
 -- a drawing that is in hand after some positions was so before them
 in-hand : (s : Setup) (pen : Pen) (memory : List ℕ) (n : ℕ) → unfinished (after s n (begun pen memory) .pen .drawing) ≡ true

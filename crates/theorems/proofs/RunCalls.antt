@@ -16,8 +16,8 @@ use Rattle.coprocessor.specs.Valid.{validOf}
 use Rattle.coprocessor.specs.Runs.{setupOf, penOf, withPen, ranOf, runRefusal, runAnswer, runMemory}
 use Rattle.coprocessor.proofs.SafeLaws.{run-allowed}
 use Rattle.theorems.specs.Totals.{leftIn}
-use Rattle.theorems.proofs.Refused.{run-refused}
-use Rattle.theorems.proofs.RunValid.{setup-kept, pen-kept, with-pen-twice, with-pen-own, valid-counters, ran-valid}
+use Rattle.laws.proofs.Refused.{run-refused}
+use Rattle.laws.proofs.RunValid.{setup-kept, pen-kept, with-pen-twice, with-pen-own, valid-counters, ran-valid}
 
 -- ---- an accepted run
 
@@ -48,14 +48,14 @@ module _ (c : Coprocessor) (memory : List ℕ) (accepted : isAccepted (runRefusa
   unfolding ranOf setupOf penOf
   run-done n =
       ap (λ (d : Drawn). d .done) (run-accepted n .1)
-      ∙ done-after (c .operations) (setupOf c) refl refl (penOf c) memory n (valid-counters c (run-allowed c memory accepted .1))
+      ∙ done-after (setupOf c) refl refl (penOf c) memory n (valid-counters c (run-allowed c memory accepted .1))
 
   -- those left fall by those done
   pub run-left : (n : ℕ) → leftIn (runAnswer c memory n .coprocessor) + runAnswer c memory n .done ≡ leftIn c
   unfolding ranOf setupOf penOf withPen
   run-left n =
       ap (λ (d : Drawn). leftIn (d .coprocessor) + d .done) (run-accepted n .1)
-      ∙ left-after (c .operations) (setupOf c) refl refl (penOf c) memory n (valid-counters c (run-allowed c memory accepted .1))
+      ∙ left-after (setupOf c) refl refl (penOf c) memory n (valid-counters c (run-allowed c memory accepted .1))
 
   -- a run of exactly the positions done is the same run
   same-run : (n : ℕ) → ranOf c memory (runAnswer c memory n .done) ≡ ranOf c memory n

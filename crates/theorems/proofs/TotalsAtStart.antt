@@ -6,9 +6,10 @@ use Prim.Native.Nat.{ℕ, _<_}
 use native.Mathlib.Omega.{arith}
 use Rattle.numbers.specs.declared.bytes.Write.{Write}
 use Rattle.numbers.proofs.Choices.{and-left, and-right}
-use Rattle.parts.specs.declared.shapes.Point.{Point}
+use Rattle.parts.specs.declared.shapes.Figure.{Figure}
 use Rattle.parts.specs.declared.drawing.Drawing.{Drawing}
 use Rattle.parts.specs.declared.drawing.Drawing.the-variants.{Nothing, Line, Codes, Block}
+use Rattle.parts.specs.Moved.{withMoved}
 use Rattle.parts.specs.Refusals.{isAccepted}
 use Rattle.parts.specs.Drawings.{unfinished}
 use Rattle.rules.specs.Going.{countersHold}
@@ -17,14 +18,13 @@ use Rattle.rules.proofs.TotalLaws.{left-started, left-some, left-idle}
 use Rattle.coprocessor.specs.declared.Coprocessor.{Coprocessor}
 use Rattle.coprocessor.specs.Valid.{goesOn, validOf}
 use Rattle.coprocessor.specs.Writes.{stored, startsBy, started, settledBy, writeRefusal, writeAnswer}
-use Rattle.coprocessor.specs.Runs.{withPen}
 use Rattle.theorems.specs.Totals.{totalIn, leftIn}
 
 pub start-total : (w : Write) (c : Coprocessor) → isAccepted (writeRefusal w c) ≡ true → startsBy w (stored w c) ≡ true
     → leftIn (writeAnswer w c .coprocessor) ≡ totalIn (writeAnswer w c .coprocessor)
-unfolding started withPen settledBy writeAnswer
+unfolding started withMoved settledBy writeAnswer
 start-total w c accepted starts =
-    rw (accepted, starts) (left-started (stored w c .operations) (stored w c .dimensions) (stored w c .steps) (w .length))
+    rw (accepted, starts) (left-started (stored w c .registers .figure) (w .length))
 
 -- ---- the drawing in hand
 
@@ -32,17 +32,17 @@ pub left-in-hand : (c : Coprocessor) → validOf c ≡ true → unfinished (c .d
 unfolding goesOn validOf
 left-in-hand c valid hand =
     let going : goesOn c ≡ true = search (valid, and-right) in
-    let counters : countersHold (c .operations) (c .dimensions) (c .steps) (c .drawing) ≡ true = search (rw hand at going, and-left) in
-    left-some (c .operations) (c .dimensions) (c .steps) (c .drawing) counters hand
+    let counters : countersHold (c .registers .figure) (c .drawing) ≡ true = search (rw hand at going, and-left) in
+    left-some (c .registers .figure) (c .drawing) counters hand
 
-none-left : (dimensions : Point) (steps : ℕ) (drawing : Drawing) → unfinished drawing ≡ false → leftOf dimensions steps drawing ≡ 0
-none-left dimensions steps (Nothing stopped) idle = left-idle dimensions steps stopped
-none-left dimensions steps (Line rose done) idle = absurd (true≢false idle)
-none-left dimensions steps (Codes count code done) idle = absurd (true≢false idle)
-none-left dimensions steps (Block inside column row) idle = absurd (true≢false idle)
+none-left : (f : Figure) (drawing : Drawing) → unfinished drawing ≡ false → leftOf f drawing ≡ 0
+none-left f (Nothing stopped) idle = left-idle f stopped
+none-left f (Line rose done) idle = absurd (true≢false idle)
+none-left f (Codes count code done) idle = absurd (true≢false idle)
+none-left f (Block inside column row) idle = absurd (true≢false idle)
 
 pub left-none : (c : Coprocessor) → validOf c ≡ true → leftIn c ≡ 0 ↔ unfinished (c .drawing) ≡ false
-left-none c valid = (λ none. by none (unfinished (c .drawing)) refl, none-left (c .dimensions) (c .steps) (c .drawing))
+left-none c valid = (λ none. by none (unfinished (c .drawing)) refl, none-left (c .registers .figure) (c .drawing))
   where
     by : leftIn c ≡ 0 → (t : Bool) → unfinished (c .drawing) ≡ t → t ≡ false
     by none true hand = absurd (let some = left-in-hand c valid hand in omega arith)

@@ -18,7 +18,7 @@ pub data Event : Type 0 where
   -- 01, The functions: a run, over the drawing's memory, by an allowance
   run : (allowance : ℕ) → Event
   -- 01, State image: the state saved into a buffer of 115 bytes, and that loaded into another coprocessor, whatever it held
-  movedTo : (other : Coprocessor) (buffer : List ℕ) → length buffer ≡ 115 → Event
+  movedTo : (other : Coprocessor) (buffer : List ℕ) → length buffer ≡ imageLength → Event
   -- 01, Registers: a read
   read : (offset length : ℕ) → Event
   -- 01, State image: a save into any buffer, accepted or refused

@@ -5,7 +5,7 @@ use mathlib.Core.List.{List, [], _∷_, _++_}
 use lib.ListN.{getD}
 use lib.Dec.{eqb}
 use Rattle.numbers.specs.Choose.{choose}
-use Rattle.cases.specs.Calls.{Call, Play, write, run, memory, changed, played}
+use Rattle.cases.specs.Calls.{Act, Play, write, run, memory, changed, played}
 
 -- docs/DECISIONS.md, 40: by mix, from 0 on, a source pixel that makes another of the destination pixel
 abbrev pub sources : List ℕ
@@ -16,7 +16,7 @@ abbrev pub destinations : List ℕ
 destinations = 1 ∷ 1 ∷ 1 ∷ 1 ∷ 1 ∷ 0 ∷ 0 ∷ 0 ∷ 1 ∷ 1 ∷ 0 ∷ 1 ∷ 1 ∷ 0 ∷ 1 ∷ 0 ∷ 0 ∷ 1 ∷ 0 ∷ 1 ∷ 1 ∷ 1 ∷ []
 
 -- 01, Registers: a write covering 7F starts the function, and one covering 2F draw and step, here by a code of one drawn position; 02, 102: a fill has a pattern map
-unfoldable pub startFor : ℕ → List Call
+unfoldable pub startFor : ℕ → List Act
 startFor function =
     choose (eqb function 10) (write 0x12 1 2 ∷ write 0x14 4 1 ∷ write 0x7C 4 0x0A012000 ∷ [])
     (write 0x7C 4 (function * 0x1000000 + 0x18000)

@@ -5,8 +5,8 @@ use Rattle.coprocessor.specs.declared.Coprocessor.{Coprocessor}
 
 -- 01, The functions: the positions of the drawing from its start
 abbrev pub totalIn : Coprocessor → ℕ
-totalIn c = totalOf (c .dimensions) (c .steps) (c .drawing)
+totalIn c = totalOf (c .registers .figure) (c .drawing)
 
 -- 01, State image: those left at its counters
 abbrev pub leftIn : Coprocessor → ℕ
-leftIn c = leftOf (c .dimensions) (c .steps) (c .drawing)
+leftIn c = leftOf (c .registers .figure) (c .drawing)

@@ -2,8 +2,8 @@
 use Rattle.parts.proofs.TakeLaws.{touched-one}
 use Rattle.coprocessor.specs.Writes.{startsBy}
 use borrow.Author.Needs.{needs}
-use Rattle.coprocessor.proofs.starts.starts.Statement.{statement}
-use Rattle.coprocessor.proofs.starts.starts.Tie as tie
+use Rattle.coprocessor.proofs.Coprocessor.starts.Statement.{statement}
+use Rattle.coprocessor.proofs.Coprocessor.starts.Tie as tie
 
 is-line-requires : tie.Need-is-line-requires
 is-line-requires c κs = search needs
