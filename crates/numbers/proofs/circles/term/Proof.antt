@@ -24,7 +24,7 @@ sub-result c = rw (toZ-pos w32 (place (c .args .x)) (omega arith)) (sub-fits w32
 
 returns : tie.Need-returns
 unfolding circle forth residue
-returns c = rw (toZ-pos w32 (place (c .args .x)) (omega arith), toZ-ofZ w32 (subℕ (place (c .args .x)) 8192) (sub-fits w32 (place (c .args .x)) 8192 (omega arith)))
+returns c = let p = place (c .args .x) in rw (toZ-pos w32 p (omega arith), toZ-ofZ w32 _ (sub-fits w32 p 8192 (omega arith)))
 
 pub term-spec : {M : Type 1} → statement M
 term-spec = tie.close (tie.spec add-result cast-result sub-result returns)
