@@ -5,7 +5,7 @@ use lib.ListN.{getD}
 use lib.Dec.{ltb, eqb}
 use Rattle.numbers.specs.Choose.{choose}
 
--- 01, One position, mixes 0 to F hex: in 01's order they are the sixteen truth tables; the code's bit 0 is the result for S and D, bit 1 for S and not D, bit 2 for not S and D, bit 3 for neither
+-- 01, One position, mixes 0 to F hex: the sixteen truth tables; a code's bit 0 is the result for S and D, 1 for S and not D, 2 for not S and D, 3 for neither
 unfoldable pub tableBit : ℕ → ℕ → ℕ → ℕ
 tableBit code s d = code / 2 ^ (3 - (2 * s + d)) % 2
 

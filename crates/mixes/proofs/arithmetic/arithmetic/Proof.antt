@@ -38,8 +38,7 @@ scatter-requires c κs = search needs
 
 returns-2 : tie.Need-returns-2
 unfolding arithmetic
-returns-2 c =
-    rw (c .scatter .ensures, c .before .work2 .ensures, c .before .before .gather3 .ensures, c .before .before .before .gather2 .ensures, c .before .before .before .before .gather .ensures)
+returns-2 c = cc
 
 pub arithmetic-spec : {M : Type 1} → statement M
 arithmetic-spec =

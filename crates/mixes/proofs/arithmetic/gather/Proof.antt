@@ -10,7 +10,8 @@ use Rattle.mixes.proofs.arithmetic.gather.Statement.{statement}
 use Rattle.mixes.proofs.arithmetic.gather.Tie as tie
 
 abbrev Inv-loop : tie.InvT-loop
-Inv-loop bits mask x left₀ enabled₀ rest₀ weight₀ number₀ left enabled rest weight number = Building bits left weight number (gathered left enabled rest) (gathered bits mask x)
+Inv-loop bits mask x left₀ enabled₀ rest₀ weight₀ number₀ left enabled rest weight number =
+    Building bits left weight number (gathered left enabled rest) (gathered bits mask x)
 
 abbrev μ-loop : tie.MeasureT-loop
 μ-loop bits mask x left₀ enabled₀ rest₀ weight₀ number₀ left enabled rest weight number = left

@@ -10,7 +10,8 @@ use Rattle.mixes.proofs.arithmetic.scatter.Statement.{statement}
 use Rattle.mixes.proofs.arithmetic.scatter.Tie as tie
 
 abbrev Inv-loop : tie.InvT-loop
-Inv-loop bits mask y left₀ enabled₀ rest₀ weight₀ pixel₀ left enabled rest weight pixel = Building bits left weight pixel (scattered left enabled rest) (scattered bits mask y)
+Inv-loop bits mask y left₀ enabled₀ rest₀ weight₀ pixel₀ left enabled rest weight pixel =
+    Building bits left weight pixel (scattered left enabled rest) (scattered bits mask y)
 
 abbrev μ-loop : tie.MeasureT-loop
 μ-loop bits mask y left₀ enabled₀ rest₀ weight₀ pixel₀ left enabled rest weight pixel = left

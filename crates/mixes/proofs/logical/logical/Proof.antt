@@ -13,7 +13,7 @@ use Rattle.mixes.proofs.logical.logical.Tie as tie
 
 -- an operation that agrees with the mix of code k is the result where the code is k
 mix : (c : tie.After-all-ones) (k : ℕ) {f : ℕ → ℕ → ℕ → ℕ → ℕ} → c .before .args .code ≡ k → Bitwise f → T (agree f (λ n m s d. logical n k s d))
-    → f (c .before .args .bits) 0 (c .before .args .s) (c .before .args .d) ≡ logical (c .before .args .bits) (c .before .args .code) (c .before .args .s) (c .before .args .d)
+    → let a = c .before .args in f (a .bits) 0 (a .s) (a .d) ≡ logical (a .bits) (a .code) (a .s) (a .d)
 mix c k e F t = rw e (is-logical k F t _ (c .before .pre .2) (c .before .pre .3))
 
 all-ones-requires : tie.Need-all-ones-requires
