@@ -1,0 +1,66 @@
+-- `command_of` goes by the first word, and the words of what follows are the others.
+use mathlib.Core.Path.{_≡_, sym, _∙_}
+use mathlib.Core.List.{_∷_}
+use native.Mathlib.Nat.{pos-of-ne-zero}
+use borrow.Author.Needs.{needs}
+use Rattle.console.specs.Words.{lineWords}
+use Rattle.console.specs.Commands.{commandFrom, commandOf}
+use Rattle.console.proofs.CommandLaws.{command-none, command-words}
+use Rattle.console.proofs.commands.command_of.Statement.{statement}
+use Rattle.console.proofs.commands.command_of.Tie as tie
+
+-- the line by its first word and what follows
+parted : (c : tie.After-next) → commandOf (c .before .before .before .before .before .args .line .now) ≡ commandFrom (c .before .word .result .now ∷ lineWords (c .next .result .now))
+parted c = command-words _ (rw (← c .before .before .before .skip .ensures) (pos-of-ne-zero (c .before .before .if1 .left))) ∙ rw (← c .before .before .before .skip .ensures, ← c .before .word .ensures, ← c .next .ensures)
+
+skip-requires : tie.Need-skip-requires
+skip-requires c κs = search needs
+
+returns : tie.Need-returns
+returns c = command-none _ (rw (← c .before .skip .ensures) (c .if1 .taken))
+
+word-requires : tie.Need-word-requires
+word-requires c κs = search needs
+
+next-requires : tie.Need-next-requires
+next-requires c κs = search needs
+
+is-letter-requires : tie.Need-is-letter-requires
+is-letter-requires c κs = search needs
+
+write-command-requires : tie.Need-write-command-requires
+write-command-requires c κs = search needs
+
+returns-2 : tie.Need-returns-2
+unfolding commandFrom
+returns-2 c = c .write-command .ensures ∙ sym (parted (c .before .before .before) ∙ rw (← c .before .before .is-letter .ensures, c .before .if2 .taken))
+
+is-letter-requires-2 : tie.Need-is-letter-requires-2
+is-letter-requires-2 c κs = search needs
+
+run-command-requires : tie.Need-run-command-requires
+run-command-requires c κs = search needs
+
+returns-3 : tie.Need-returns-3
+unfolding commandFrom
+returns-3 c = c .run-command .ensures ∙ sym (parted (c .before .before .before .before .before) ∙ rw (← c .before .before .before .before .is-letter .ensures, c .before .before .before .if2 .left, ← c .before .before .is-letter2 .ensures, c .before .if3 .taken))
+
+returns-4 : tie.Need-returns-4
+unfolding commandFrom
+returns-4 c = sym (parted (c .before .before .before .before) ∙ rw (← c .before .before .before .is-letter .ensures, c .before .before .if2 .left, ← c .before .is-letter2 .ensures, c .if3 .left))
+
+pub command-of-spec : {M : Type 1} → statement M
+command-of-spec =
+    tie.close
+    (tie.spec
+    skip-requires
+    returns
+    word-requires
+    next-requires
+    is-letter-requires
+    write-command-requires
+    returns-2
+    is-letter-requires-2
+    run-command-requires
+    returns-3
+    returns-4)
