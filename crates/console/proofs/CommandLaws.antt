@@ -45,28 +45,16 @@ pub write-three : (args : List ℕ) → length (nextOf (nextOf (nextOf (skipped 
     → writeOf (wordNumber 16 (wordOf (skipped args))) (wordNumber 10 (wordOf (nextOf (skipped args)))) (wordNumber 16 (wordOf (nextOf (nextOf (skipped args)))))
     ≡ writeFrom (lineWords args)
 write-three args none =
-    let s : List ℕ = skipped args in
-    sym (ap writeFrom
-    (sym (words-skipped args)
-    ∙ words-word s
-    ∙ ap (kept (wordOf s)) (words-word (nextOf s) ∙ ap (kept (wordOf (nextOf s))) (words-word (nextOf (nextOf s)) ∙ ap (kept (wordOf (nextOf (nextOf s)))) (words-none _ none))))
-    ∙ write-kept (wordOf s) (wordOf (nextOf s)) (wordOf (nextOf (nextOf s))))
+    let s = skipped args in let t = nextOf s in let u = nextOf t in
+    cc (words-skipped args, words-word s, words-word t, words-word u, words-none _ none, write-kept (wordOf s) (wordOf t) (wordOf u))
 
 -- something does
 pub write-more : (args : List ℕ) → 0 < length (nextOf (nextOf (nextOf (skipped args)))) → Neither ≡ writeFrom (lineWords args)
 unfolding writeFrom
 write-more args some =
-    let s : List ℕ = skipped args in
-    let third = next-some (nextOf (nextOf s)) some in
-    let second = next-some (nextOf s) third in
-    sym (ap writeFrom
-    (sym (words-skipped args)
-    ∙ words-first s (skipped-starts args) (next-some s second)
-    ∙ ap (λ (w : List (List ℕ)). wordOf s ∷ w)
-    (words-first (nextOf s) (next-starts s) second
-    ∙ ap (λ (w : List (List ℕ)). wordOf (nextOf s) ∷ w)
-    (words-first (nextOf (nextOf s)) (next-starts (nextOf s)) third
-    ∙ ap (λ (w : List (List ℕ)). wordOf (nextOf (nextOf s)) ∷ w) (words-first (nextOf (nextOf (nextOf s))) (next-starts (nextOf (nextOf s))) some)))))
+    let s = skipped args in let t = nextOf s in let u = nextOf t in let third = next-some u some in let second = next-some t third in
+    let last = words-first (nextOf u) (next-starts u) some in let words = words-first u (next-starts t) third in
+    cc (words-skipped args, words-first s (skipped-starts args) (next-some s second), words-first t (next-starts s) second)
 
 -- ---- a run
 
@@ -77,17 +65,14 @@ run-kept (x ∷ a) = refl
 
 pub run-one : (args : List ℕ) → length (nextOf (skipped args)) ≡ 0 → runOf (wordNumber 10 (wordOf (skipped args))) ≡ runFrom (lineWords args)
 run-one args none =
-    let s : List ℕ = skipped args in
-    sym (ap runFrom (sym (words-skipped args) ∙ words-word s ∙ ap (kept (wordOf s)) (words-none _ none)) ∙ run-kept (wordOf s))
+    let s = skipped args in
+    cc (words-skipped args, words-word s, words-none _ none, run-kept (wordOf s))
 
 pub run-more : (args : List ℕ) → 0 < length (nextOf (skipped args)) → Neither ≡ runFrom (lineWords args)
 unfolding runFrom
 run-more args some =
-    let s : List ℕ = skipped args in
-    sym (ap runFrom
-    (sym (words-skipped args)
-    ∙ words-first s (skipped-starts args) (next-some s some)
-    ∙ ap (λ (w : List (List ℕ)). wordOf s ∷ w) (words-first (nextOf s) (next-starts s) some)))
+    let s = skipped args in
+    cc (words-skipped args, words-first s (skipped-starts args) (next-some s some), words-first (nextOf s) (next-starts s) some)
 
 -- ---- a line
 

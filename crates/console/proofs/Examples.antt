@@ -1,63 +1,67 @@
--- Worked lines, each shown by computing it.
+-- Worked lines, answers and memory, each shown by computing it.
 use mathlib.Core.Path.{_≡_, refl}
 use mathlib.Core.List.{[], _∷_}
 use Rattle.console.specs.declared.Command.the-variants.{Write, Run, Blank, Neither}
+use Rattle.console.specs.declared.Answer.the-variants.{Done, Refused, Nothing, Neither as Unread}
 use Rattle.console.specs.Words.{isBlank, kept, split, lineWords}
 use Rattle.console.specs.Digits.{digitOf, digits, value, numberFrom, wordNumber}
 use Rattle.console.specs.Commands.{isLetter, writeOf, runOf, writeFrom, runFrom, commandFrom, commandOf}
 use Rattle.console.specs.Gathered.{commandIn}
+use Rattle.console.specs.Texts.{decimal, numbered, answerText, hexDigit, separatorOf, byteText, bytesText, memoryText}
 
--- "w 7C 4 05018000"
-pub write-line : commandOf (0x77 ∷ 0x20 ∷ 0x37 ∷ 0x43 ∷ 0x20 ∷ 0x34 ∷ 0x20 ∷ 0x30 ∷ 0x35 ∷ 0x30 ∷ 0x31 ∷ 0x38 ∷ 0x30 ∷ 0x30 ∷ 0x30 ∷ []) ≡ Write 0x7C 4 0x05018000
-unfolding isBlank kept split lineWords digitOf digits value numberFrom wordNumber isLetter writeOf runOf writeFrom runFrom commandFrom commandOf
-write-line = refl
+-- ---- lines, and what they ask for
 
--- "W 1c 1 aB"
-pub upper-line : commandOf (0x57 ∷ 0x20 ∷ 0x31 ∷ 0x63 ∷ 0x20 ∷ 0x31 ∷ 0x20 ∷ 0x61 ∷ 0x42 ∷ []) ≡ Write 0x1C 1 0xAB
-unfolding isBlank kept split lineWords digitOf digits value numberFrom wordNumber isLetter writeOf runOf writeFrom runFrom commandFrom commandOf
-upper-line = refl
-
--- "\t r \t 0009 \r"
-pub spaced-line : commandOf (0x09 ∷ 0x20 ∷ 0x72 ∷ 0x20 ∷ 0x09 ∷ 0x20 ∷ 0x30 ∷ 0x30 ∷ 0x30 ∷ 0x39 ∷ 0x20 ∷ 0x0D ∷ []) ≡ Run 9
-unfolding isBlank kept split lineWords digitOf digits value numberFrom wordNumber isLetter writeOf runOf writeFrom runFrom commandFrom commandOf
-spaced-line = refl
-
--- " \t\r"
-pub blank-line : commandOf (0x20 ∷ 0x09 ∷ 0x0D ∷ []) ≡ Blank
-unfolding isBlank kept split lineWords digitOf digits value numberFrom wordNumber isLetter writeOf runOf writeFrom runFrom commandFrom commandOf
-blank-line = refl
-
--- "r 1 2"
-pub extra-line : commandOf (0x72 ∷ 0x20 ∷ 0x31 ∷ 0x20 ∷ 0x32 ∷ []) ≡ Neither
-unfolding isBlank kept split lineWords digitOf digits value numberFrom wordNumber isLetter writeOf runOf writeFrom runFrom commandFrom commandOf
-extra-line = refl
-
--- "w 12 1"
-pub short-line : commandOf (0x77 ∷ 0x20 ∷ 0x31 ∷ 0x32 ∷ 0x20 ∷ 0x31 ∷ []) ≡ Neither
-unfolding isBlank kept split lineWords digitOf digits value numberFrom wordNumber isLetter writeOf runOf writeFrom runFrom commandFrom commandOf
-short-line = refl
-
--- "r A"
-pub hex-allowance : commandOf (0x72 ∷ 0x20 ∷ 0x41 ∷ []) ≡ Neither
-unfolding isBlank kept split lineWords digitOf digits value numberFrom wordNumber isLetter writeOf runOf writeFrom runFrom commandFrom commandOf
-hex-allowance = refl
-
--- "r 4294967295"
-pub largest : commandOf (0x72 ∷ 0x20 ∷ 0x34 ∷ 0x32 ∷ 0x39 ∷ 0x34 ∷ 0x39 ∷ 0x36 ∷ 0x37 ∷ 0x32 ∷ 0x39 ∷ 0x35 ∷ []) ≡ Run 4294967295
-unfolding isBlank kept split lineWords digitOf digits value numberFrom wordNumber isLetter writeOf runOf writeFrom runFrom commandFrom commandOf
-largest = refl
-
--- "r 4294967296"
-pub too-large : commandOf (0x72 ∷ 0x20 ∷ 0x34 ∷ 0x32 ∷ 0x39 ∷ 0x34 ∷ 0x39 ∷ 0x36 ∷ 0x37 ∷ 0x32 ∷ 0x39 ∷ 0x36 ∷ []) ≡ Neither
-unfolding isBlank kept split lineWords digitOf digits value numberFrom wordNumber isLetter writeOf runOf writeFrom runFrom commandFrom commandOf
-too-large = refl
-
--- "r 1" in a buffer of 3 bytes, which it fills
-pub full-buffer : commandIn (0x72 ∷ 0x20 ∷ 0x31 ∷ []) 3 ≡ Run 1
+pub lines-read :
+    -- "w 7C 4 05018000"
+    (commandOf (0x77 ∷ 0x20 ∷ 0x37 ∷ 0x43 ∷ 0x20 ∷ 0x34 ∷ 0x20 ∷ 0x30 ∷ 0x35 ∷ 0x30 ∷ 0x31 ∷ 0x38 ∷ 0x30 ∷ 0x30 ∷ 0x30 ∷ []) ≡ Write 0x7C 4 0x05018000)
+    -- "W 1c 1 aB"
+    × (commandOf (0x57 ∷ 0x20 ∷ 0x31 ∷ 0x63 ∷ 0x20 ∷ 0x31 ∷ 0x20 ∷ 0x61 ∷ 0x42 ∷ []) ≡ Write 0x1C 1 0xAB)
+    -- "\t r \t 0009 \r"
+    × (commandOf (0x09 ∷ 0x20 ∷ 0x72 ∷ 0x20 ∷ 0x09 ∷ 0x20 ∷ 0x30 ∷ 0x30 ∷ 0x30 ∷ 0x39 ∷ 0x20 ∷ 0x0D ∷ []) ≡ Run 9)
+    -- " \t\r"
+    × (commandOf (0x20 ∷ 0x09 ∷ 0x0D ∷ []) ≡ Blank)
+    -- "r 1 2"
+    × (commandOf (0x72 ∷ 0x20 ∷ 0x31 ∷ 0x20 ∷ 0x32 ∷ []) ≡ Neither)
+    -- "w 12 1"
+    × (commandOf (0x77 ∷ 0x20 ∷ 0x31 ∷ 0x32 ∷ 0x20 ∷ 0x31 ∷ []) ≡ Neither)
+    -- "r A"
+    × (commandOf (0x72 ∷ 0x20 ∷ 0x41 ∷ []) ≡ Neither)
+    -- "r 4294967295"
+    × (commandOf (0x72 ∷ 0x20 ∷ 0x34 ∷ 0x32 ∷ 0x39 ∷ 0x34 ∷ 0x39 ∷ 0x36 ∷ 0x37 ∷ 0x32 ∷ 0x39 ∷ 0x35 ∷ []) ≡ Run 4294967295)
+    -- "r 4294967296"
+    × (commandOf (0x72 ∷ 0x20 ∷ 0x34 ∷ 0x32 ∷ 0x39 ∷ 0x34 ∷ 0x39 ∷ 0x36 ∷ 0x37 ∷ 0x32 ∷ 0x39 ∷ 0x36 ∷ []) ≡ Neither)
+    -- "r 1" in a buffer of 3 bytes, which it fills
+    × (commandIn (0x72 ∷ 0x20 ∷ 0x31 ∷ []) 3 ≡ Run 1)
+    -- a line of more than 3 bytes, of which the first are "r 1"
+    × (commandIn (0x72 ∷ 0x20 ∷ 0x31 ∷ []) 4 ≡ Neither)
 unfolding isBlank kept split lineWords digitOf digits value numberFrom wordNumber isLetter writeOf runOf writeFrom runFrom commandFrom commandOf commandIn
-full-buffer = refl
+lines-read = (refl, refl, refl, refl, refl, refl, refl, refl, refl, refl, refl)
 
--- a line of more than 3 bytes, of which the first are "r 1"
-pub over-full : commandIn (0x72 ∷ 0x20 ∷ 0x31 ∷ []) 4 ≡ Neither
-unfolding isBlank kept split lineWords digitOf digits value numberFrom wordNumber isLetter writeOf runOf writeFrom runFrom commandFrom commandOf commandIn
-over-full = refl
+-- ---- answers as text
+
+pub answers-told :
+    -- "ok 2" and a newline
+    (answerText (Done 2) 7 ≡ 0x6F ∷ 0x6B ∷ 0x20 ∷ 0x32 ∷ 0x0A ∷ [])
+    -- "no 10" and a newline
+    × (answerText (Refused 10) 7 ≡ 0x6E ∷ 0x6F ∷ 0x20 ∷ 0x31 ∷ 0x30 ∷ 0x0A ∷ [])
+    -- "line 100: not a call" and a newline
+    × (answerText Unread 100
+    ≡ 0x6C ∷ 0x69 ∷ 0x6E ∷ 0x65 ∷ 0x20 ∷ 0x31 ∷ 0x30 ∷ 0x30 ∷ 0x3A ∷ 0x20 ∷ 0x6E ∷ 0x6F ∷ 0x74 ∷ 0x20 ∷ 0x61 ∷ 0x20 ∷ 0x63 ∷ 0x61 ∷ 0x6C ∷ 0x6C ∷ 0x0A ∷ [])
+    -- "line 18446744073709551615: not a call" and a newline
+    × (answerText Unread 18446744073709551615
+    ≡ 0x6C ∷ 0x69 ∷ 0x6E ∷ 0x65 ∷ 0x20 ∷ 0x31 ∷ 0x38 ∷ 0x34 ∷ 0x34 ∷ 0x36 ∷ 0x37 ∷ 0x34 ∷ 0x34 ∷ 0x30 ∷ 0x37 ∷ 0x33 ∷ 0x37 ∷ 0x30 ∷ 0x39 ∷ 0x35 ∷ 0x35
+    ∷ 0x31 ∷ 0x36 ∷ 0x31 ∷ 0x35 ∷ 0x3A ∷ 0x20 ∷ 0x6E ∷ 0x6F ∷ 0x74 ∷ 0x20 ∷ 0x61 ∷ 0x20 ∷ 0x63 ∷ 0x61 ∷ 0x6C ∷ 0x6C ∷ 0x0A ∷ [])
+    -- nothing
+    × (answerText Nothing 7 ≡ [])
+unfolding decimal numbered answerText
+answers-told = (refl, refl, refl, refl, refl)
+
+-- ---- memory as text
+
+-- "AA 0F", fourteen times "00" and a newline, then "3C" and a blank: the newline stands after the sixteenth byte
+pub memory-shown : memoryText (0xAA ∷ 0x0F ∷ 0 ∷ 0 ∷ 0 ∷ 0 ∷ 0 ∷ 0 ∷ 0 ∷ 0 ∷ 0 ∷ 0 ∷ 0 ∷ 0 ∷ 0 ∷ 0 ∷ 0x3C ∷ [])
+    ≡ 0x41 ∷ 0x41 ∷ 0x20 ∷ 0x30 ∷ 0x46 ∷ 0x20 ∷ 0x30 ∷ 0x30 ∷ 0x20 ∷ 0x30 ∷ 0x30 ∷ 0x20 ∷ 0x30 ∷ 0x30 ∷ 0x20 ∷ 0x30 ∷ 0x30 ∷ 0x20
+    ∷ 0x30 ∷ 0x30 ∷ 0x20 ∷ 0x30 ∷ 0x30 ∷ 0x20 ∷ 0x30 ∷ 0x30 ∷ 0x20 ∷ 0x30 ∷ 0x30 ∷ 0x20 ∷ 0x30 ∷ 0x30 ∷ 0x20 ∷ 0x30 ∷ 0x30 ∷ 0x20
+    ∷ 0x30 ∷ 0x30 ∷ 0x20 ∷ 0x30 ∷ 0x30 ∷ 0x20 ∷ 0x30 ∷ 0x30 ∷ 0x20 ∷ 0x30 ∷ 0x30 ∷ 0x0A ∷ 0x33 ∷ 0x43 ∷ 0x20 ∷ []
+unfolding hexDigit separatorOf byteText bytesText memoryText
+memory-shown = refl

@@ -54,25 +54,27 @@ line-long size line long = rw (lt-leb (length line) size long)
 
 -- ---- any line
 
+-- these bytes, gathered after those in the buffer, are the command of the whole line
+abbrev Gathers : List ℕ → ℕ → List ℕ → Type 0
+Gathers buffer count bytes =
+    commandIn (bufferAfter buffer count bytes) (countsAfter (length buffer) count bytes) ≡ lineCommand (length buffer) (take count buffer ++ bytes)
+
 -- one byte that fits goes to the end of those so far
 fits-by : (buffer : List ℕ) (count b : ℕ) (bytes : List ℕ) → count < length buffer
-    → commandIn (bufferAfter (set buffer count b) (suc count) bytes) (countsAfter (length (set buffer count b)) (suc count) bytes)
-    ≡ lineCommand (length (set buffer count b)) (take (suc count) (set buffer count b) ++ bytes)
-    → commandIn (bufferAfter buffer count (b ∷ bytes)) (countsAfter (length buffer) count (b ∷ bytes)) ≡ lineCommand (length buffer) (take count buffer ++ (b ∷ bytes))
+    → Gathers (set buffer count b) (suc count) bytes → Gathers buffer count (b ∷ bytes)
 unfolding bufferAfter countsAfter
 fits-by buffer count b bytes fits rest =
     rw (count-fits (length buffer) count fits)
     (rw (length-set buffer count b, take-suc-set buffer count b fits, append-assoc (take count buffer) (b ∷ []) bytes) at rest)
 
-full-by : (buffer : List ℕ) (count b : ℕ) (bytes : List ℕ) → count ≤ length buffer → length buffer ≤ count
-    → commandIn (bufferAfter buffer count (b ∷ bytes)) (countsAfter (length buffer) count (b ∷ bytes)) ≡ lineCommand (length buffer) (take count buffer ++ (b ∷ bytes))
+full-by : (buffer : List ℕ) (count b : ℕ) (bytes : List ℕ) → count ≤ length buffer → length buffer ≤ count → Gathers buffer count (b ∷ bytes)
 unfolding countsAfter
 full-by buffer count b bytes within full =
-    too-long _ _ (rw (buffer-length buffer count (b ∷ bytes), count-full (length buffer) count full) (counts-full (length buffer) (length buffer + 1) bytes (omega arith)))
-    ∙ sym (line-long (length buffer) (take count buffer ++ (b ∷ bytes)) (rw (length-append (take count buffer) (b ∷ bytes), length-take-le count buffer within) (omega arith)))
+    let over = counts-full (length buffer) (length buffer + 1) bytes (omega arith) in
+    let whole = length-append (take count buffer) (b ∷ bytes) in let some = length-take-le count buffer within in
+    too-long _ _ (rw (buffer-length buffer count (b ∷ bytes), count-full (length buffer) count full) over) ∙ sym (line-long _ _ (omega arith))
 
-gathers : (bytes buffer : List ℕ) (count : ℕ) → count ≤ length buffer
-    → commandIn (bufferAfter buffer count bytes) (countsAfter (length buffer) count bytes) ≡ lineCommand (length buffer) (take count buffer ++ bytes)
+gathers : (bytes buffer : List ℕ) (count : ℕ) → count ≤ length buffer → Gathers buffer count bytes
 unfolding commandIn bufferAfter countsAfter lineCommand
 gathers [] buffer count within = rw (append-nil (take count buffer), length-take-le count buffer within)
 gathers (b ∷ bytes) buffer count within =

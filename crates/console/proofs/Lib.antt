@@ -5,4 +5,3 @@ pub mod CommandLaws
 pub mod GatherLaws
 pub mod TextLaws
 pub mod Examples
-pub mod TextExamples

@@ -4,7 +4,6 @@ use mathlib.Core.Bool.{Bool, true, false}
 use mathlib.Core.List.{List, [], _∷_}
 use Prim.Native.Nat.{ℕ, suc, _+_, _-_, _≤_, _<_, zero-le, suc-le-suc}
 use native.Mathlib.Numerals.{add-one}
-use native.Mathlib.Omega.{arith}
 use lib.ListN.{length, getD, take, drop, length-drop, drop-of-length-le}
 use lib.Seq.{take-length, drop-cons}
 use Rattle.numbers.specs.Choose.{choose}
@@ -25,14 +24,6 @@ pub span-on : (blank : Bool) (s : List ℕ) (i : ℕ) → i < length s → match
     → span blank (drop i s) ≡ suc (span blank (drop (i + 1) s))
 unfolding span
 span-on blank s i inside e = rw (drop-cons s i 0 inside, e, add-one)
-
--- the place where it stops is the whole span
-pub span-here : (n i rest : ℕ) → n ≡ i + rest → rest ≡ 0 → i ≡ n
-span-here n i rest e none = omega arith
-
--- and one further on it is one less
-pub span-one : (n i rest more : ℕ) → n ≡ i + rest → rest ≡ suc more → n ≡ i + 1 + more
-span-one n i rest more e on = omega arith
 
 within : (t : Bool) {m n : ℕ} → m ≤ n → choose t (suc m) 0 ≤ suc n
 within true le = suc-le-suc le

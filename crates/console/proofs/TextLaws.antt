@@ -49,25 +49,26 @@ pub decimal-length : (places n : ℕ) → length (decimal places n) ≤ places
 unfolding decimal
 decimal-length zero n = zero-le
 decimal-length (suc places) n =
-    let less : length (decimal places (n / 10)) ≤ places = decimal-length places (n / 10) in
-    choose-either (λ (s : List ℕ). length s ≤ suc places) (ltb n 10) (suc-le-suc zero-le) (rw (length-append (decimal places (n / 10)) ((48 + n % 10) ∷ [])) (omega arith))
+    let less = decimal-length places (n / 10) in let whole = length-append (decimal places (n / 10)) ((48 + n % 10) ∷ []) in
+    choose-either (λ (s : List ℕ). length s ≤ suc places) (ltb n 10) (suc-le-suc zero-le) (omega arith)
 
 -- ---- a word, a number and what follows it
 
-pub numbered-laid : (out before after : List ℕ) (n : ℕ)
-    → sets (sets (sets out 0 before) (0 + length before) (decimal 20 n)) (0 + length before + length (decimal 20 n)) after ≡ sets out 0 (numbered before n after)
+pub numbered-laid : (out before after : List ℕ) (n : ℕ) → let at = 0 + length before in
+    sets (sets (sets out 0 before) at (decimal 20 n)) (at + length (decimal 20 n)) after ≡ sets out 0 (numbered before n after)
 unfolding numbered
-numbered-laid out before after n = sym (ap (sets out 0) (append-assoc before (decimal 20 n) after) ∙ sets-append out 0 before (decimal 20 n ++ after) ∙ sets-append (sets out 0 before) (0 + length before) (decimal 20 n) after)
+numbered-laid out before after n = simp (append-assoc, sets-append)
 
 pub numbered-length : (before after : List ℕ) (n : ℕ) → length (numbered before n after) ≡ 0 + length before + length (decimal 20 n) + length after
 unfolding numbered
 numbered-length before after n = simp length-append (omega arith)
 
-pub numbered-fits : (before after : List ℕ) (n : ℕ) {r : ℕ} → r ≡ length (numbered before n after) → r ≤ length before + 20 + length after
-numbered-fits before after n e = let few = decimal-length 20 n in let whole = numbered-length before after n in omega arith
-
-pub counted : (n : ℕ) (bytes : List ℕ) → n ≤ length bytes → Counted n bytes
-counted n bytes within = (within, sym (length-take-le n bytes within))
+-- with what was laid, so many bytes of a buffer that had room are counted
+pub counted : (before after : List ℕ) (n : ℕ) {r : ℕ} {φ : Type 0} (out : List ℕ) → (r ≡ length (numbered before n after)) × φ
+    → length before + 20 + length after ≤ length out → ((r ≡ length (numbered before n after)) × φ) × Counted r out
+counted before after n {r} out laid room =
+    let few = decimal-length 20 n in let whole = numbered-length before after n in let within : r ≤ length out = omega (arith, laid .0) in
+    (laid, (within, sym (length-take-le r out within)))
 
 -- ---- memory in hex
 
@@ -93,8 +94,8 @@ pub memory-begins : (out memory : List ℕ) → length out ≡ 3 * length memory
 unfolding memoryText
 memory-begins out memory room = let whole = bytes-length 0 memory in sets-whole out (bytesText 0 memory) (omega arith)
 
-pub memory-on : (out memory : List ℕ) (i : ℕ) → i < length memory
-    → sets out (3 * i) (bytesText i (drop i memory)) ≡ sets (sets out (3 * i) (byteText i (getD memory i 0))) (3 * (i + 1)) (bytesText (i + 1) (drop (i + 1) memory))
+pub memory-on : (out memory : List ℕ) (i : ℕ) → i < length memory → let j = i + 1 in
+    sets out (3 * i) (bytesText i (drop i memory)) ≡ sets (sets out (3 * i) (byteText i (getD memory i 0))) (3 * j) (bytesText j (drop j memory))
 unfolding bytesText byteText
 memory-on out memory i inside =
     let next : 3 * (i + 1) ≡ 3 * i + 3 = omega arith in

@@ -10,21 +10,10 @@ use Rattle.console.specs.Inner.{matches, span, skipped, wordOf, nextOf}
 
 -- ---- blanks at the start
 
-skipped-blank : (b : ℕ) (bs : List ℕ) → isBlank b ≡ true → skipped (b ∷ bs) ≡ skipped bs
-unfolding matches span skipped
-skipped-blank b bs blank = rw blank
-
-skipped-none : (b : ℕ) (bs : List ℕ) → isBlank b ≡ false → skipped (b ∷ bs) ≡ b ∷ bs
-unfolding matches span skipped
-skipped-none b bs letter = rw letter
-
-words-blank : (b : ℕ) (bs : List ℕ) → isBlank b ≡ true → lineWords (b ∷ bs) ≡ lineWords bs
-unfolding lineWords split kept
-words-blank b bs blank = rw blank
-
 skipped-by : (b : ℕ) (bs : List ℕ) (t : Bool) → isBlank b ≡ t → lineWords (skipped bs) ≡ lineWords bs → lineWords (skipped (b ∷ bs)) ≡ lineWords (b ∷ bs)
-skipped-by b bs true blank rest = ap lineWords (skipped-blank b bs blank) ∙ rest ∙ sym (words-blank b bs blank)
-skipped-by b bs false letter rest = ap lineWords (skipped-none b bs letter)
+unfolding matches span skipped lineWords split kept
+skipped-by b bs true blank rest = rw blank rest
+skipped-by b bs false letter rest = simp letter
 
 pub words-skipped : (s : List ℕ) → lineWords (skipped s) ≡ lineWords s
 unfolding span skipped
@@ -37,8 +26,9 @@ Starts [] = Unit {0}
 Starts (b ∷ bs) = isBlank b ≡ false
 
 starts-by : (b : ℕ) (bs : List ℕ) (t : Bool) → isBlank b ≡ t → Starts (skipped bs) → Starts (skipped (b ∷ bs))
-starts-by b bs true blank rest = rw (skipped-blank b bs blank) rest
-starts-by b bs false letter rest = rw (skipped-none b bs letter) letter
+unfolding matches span skipped
+starts-by b bs true blank rest = rw blank rest
+starts-by b bs false letter rest = rw letter letter
 
 pub skipped-starts : (s : List ℕ) → Starts (skipped s)
 unfolding span skipped
@@ -55,39 +45,13 @@ next-starts s = skipped-starts (drop (span false s) s)
 abbrev restOf : List ℕ → List ℕ
 restOf s = drop (span false s) s
 
-word-letter : (b : ℕ) (bs : List ℕ) → isBlank b ≡ false → wordOf (b ∷ bs) ≡ b ∷ wordOf bs
-unfolding matches span wordOf
-word-letter b bs letter = rw letter
-
-rest-letter : (b : ℕ) (bs : List ℕ) → isBlank b ≡ false → restOf (b ∷ bs) ≡ restOf bs
-unfolding matches span
-rest-letter b bs letter = rw letter
-
-word-blank : (b : ℕ) (bs : List ℕ) → isBlank b ≡ true → wordOf (b ∷ bs) ≡ []
-unfolding matches span wordOf
-word-blank b bs blank = rw blank
-
-rest-blank : (b : ℕ) (bs : List ℕ) → isBlank b ≡ true → restOf (b ∷ bs) ≡ b ∷ bs
-unfolding matches span
-rest-blank b bs blank = rw blank
-
-split-blank : (came : List ℕ) (b : ℕ) (bs : List ℕ) → isBlank b ≡ true → split came (b ∷ bs) ≡ kept came (lineWords bs)
-unfolding lineWords split
-split-blank came b bs blank = rw blank
-
-split-letter : (came : List ℕ) (b : ℕ) (bs : List ℕ) → isBlank b ≡ false → split came (b ∷ bs) ≡ split (came ++ (b ∷ [])) bs
-unfolding split
-split-letter came b bs letter = rw letter
-
 -- the word under way is finished by the word at the start
 split-by : (came : List ℕ) (b : ℕ) (bs : List ℕ) (t : Bool) → isBlank b ≡ t
     → split (came ++ (b ∷ [])) bs ≡ kept ((came ++ (b ∷ [])) ++ wordOf bs) (lineWords (restOf bs))
     → split came (b ∷ bs) ≡ kept (came ++ wordOf (b ∷ bs)) (lineWords (restOf (b ∷ bs)))
-split-by came b bs true blank rest =
-    split-blank came b bs blank
-    ∙ simp (word-blank b bs blank, rest-blank b bs blank, words-blank b bs blank, append-nil)
-split-by came b bs false letter rest =
-    split-letter came b bs letter ∙ rest ∙ simp (word-letter b bs letter, rest-letter b bs letter, append-assoc)
+unfolding matches span wordOf lineWords split kept
+split-by came b bs true blank rest = simp (blank, append-nil)
+split-by came b bs false letter rest = rw letter (rest ∙ rw append-assoc)
 
 split-word : (came s : List ℕ) → split came s ≡ kept (came ++ wordOf s) (lineWords (restOf s))
 unfolding span wordOf split lineWords kept
@@ -101,8 +65,8 @@ words-word s = split-word [] s ∙ ap (kept (wordOf s)) (sym (words-skipped (res
 -- ---- words that are there
 
 kept-letter : (b : ℕ) (bs : List ℕ) (words : List (List ℕ)) → isBlank b ≡ false → kept (wordOf (b ∷ bs)) words ≡ wordOf (b ∷ bs) ∷ words
-unfolding kept
-kept-letter b bs words letter = rw (word-letter b bs letter)
+unfolding matches span wordOf kept
+kept-letter b bs words letter = rw letter
 
 pub words-first : (s : List ℕ) → Starts s → 0 < length s → lineWords s ≡ wordOf s ∷ lineWords (nextOf s)
 words-first [] starts some = absurd (omega arith)

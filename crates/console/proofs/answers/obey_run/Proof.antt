@@ -17,7 +17,7 @@ same-length c = search needs
 
 returns : tie.Need-returns
 unfolding runTold
-returns c = (λ i. record { answer = (c .outcome-of .ensures ∙ ap (λ (d : Drawn). outcomeOf (d .refusal) (d .done)) (c .before .before .before .before .run .ensures .0)) i; coprocessor = ap (λ (d : Drawn). d .coprocessor) (c .before .before .before .before .run .ensures .0) i }, c .before .before .before .before .run .ensures .1)
+returns c = (cc, c .before .before .before .before .run .ensures .1)
 
 pub obey-run-spec : {M : Type 1} → statement M
 obey-run-spec = tie.close (tie.spec run-requires outcome-of-requires same-length returns)

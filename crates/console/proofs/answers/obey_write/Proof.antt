@@ -14,7 +14,7 @@ outcome-of-requires c κs = search needs
 
 returns : tie.Need-returns
 unfolding writeTold
-returns c = λ i. record { answer = (c .outcome-of .ensures ∙ ap (λ (w : Written). outcomeOf (w .refusal) 0) (c .before .before .write-own .ensures)) i; coprocessor = ap (λ (w : Written). w .coprocessor) (c .before .before .write-own .ensures) i }
+returns c = cc
 
 pub obey-write-spec : {M : Type 1} → statement M
 obey-write-spec = tie.close (tie.spec write-own-requires outcome-of-requires returns)

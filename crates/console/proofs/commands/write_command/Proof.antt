@@ -1,6 +1,9 @@
 -- `write_command` finds three words and what follows: if nothing does, they are all the words, and otherwise there are more than three.
+use mathlib.Core.Path.{_≡_}
 use native.Mathlib.Nat.{pos-of-ne-zero}
+use lib.ListN.{length}
 use borrow.Author.Needs.{needs}
+use Rattle.console.specs.Inner.{skipped, nextOf}
 use Rattle.console.proofs.CommandLaws.{write-three, write-more}
 use Rattle.console.proofs.commands.write_command.Statement.{statement}
 use Rattle.console.proofs.commands.write_command.Tie as tie
@@ -18,7 +21,9 @@ next-requires-3 : tie.Need-next-requires-3
 next-requires-3 c κs = search needs
 
 returns : tie.Need-returns
-returns c = write-more _ (rw (← c .before .before .before .before .skip .ensures, ← c .before .before .before .next .ensures, ← c .before .before .next2 .ensures, ← c .before .next3 .ensures) (pos-of-ne-zero (c .if1 .taken)))
+returns c =
+    let more = rw (c .before .next3 .ensures, c .before .before .next2 .ensures) at (pos-of-ne-zero (c .if1 .taken)) in
+    write-more _ (rw (← c .before .before .before .before .skip .ensures, ← c .before .before .before .next .ensures) more)
 
 number-at-requires : tie.Need-number-at-requires
 number-at-requires c κs = search needs
@@ -33,7 +38,9 @@ write-of-requires : tie.Need-write-of-requires
 write-of-requires c κs = search needs
 
 returns-2 : tie.Need-returns-2
-returns-2 c = rw (c .write-of .ensures, c .before .number-at3 .ensures, c .before .before .number-at2 .ensures, c .before .before .before .number-at .ensures, c .before .before .before .before .before .before .next2 .ensures, c .before .before .before .before .before .before .before .next .ensures, c .before .before .before .before .before .before .before .before .skip .ensures) (write-three _ (rw (← c .before .before .before .before .before .before .before .before .skip .ensures, ← c .before .before .before .before .before .before .before .next .ensures, ← c .before .before .before .before .before .before .next2 .ensures, ← c .before .before .before .before .before .next3 .ensures) (c .before .before .before .before .if1 .left)))
+returns-2 c =
+    let args = c .before .before .before .before .before .before .before .before .before .before .args .args .now in
+    let none : length (nextOf (nextOf (nextOf (skipped args)))) ≡ 0 = cc in cc (write-three args none)
 
 pub write-command-spec : {M : Type 1} → statement M
 write-command-spec =

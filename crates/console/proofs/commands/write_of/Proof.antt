@@ -24,7 +24,7 @@ enum-told-3 c = search needs
 
 returns : tie.Need-returns
 unfolding writeOf
-returns c = rw (c .before .before .before .before .before .before .before .offset .given .1, c .before .before .before .before .length .given .1, c .before .value .given .1)
+returns c = cc
 
 returns-2 : tie.Need-returns-2
 unfolding writeOf

@@ -28,27 +28,35 @@ returns c = simp (le-leb 48 (c .before .before .args .byte) (omega arith), le-le
 
 returns-2 : tie.Need-returns-2
 unfolding digitOf
-returns-2 c = simp (le-leb 48 (c .before .before .before .before .args .byte) (omega arith), lt-leb (c .before .before .before .before .args .byte) 57 (omega arith), le-leb 65 (c .before .before .before .before .args .byte) (omega arith), le-leb (c .before .before .before .before .args .byte) 70 (omega arith))
+returns-2 c =
+    let b = c .before .before .before .before .args .byte in
+    simp (lt-leb b 57 (omega arith), and-false, le-leb 65 b (omega arith), le-leb b 70 (omega arith))
 
 returns-3 : tie.Need-returns-3
 unfolding digitOf
-returns-3 c = simp (le-leb 48 (c .before .before .before .before .before .before .args .byte) (omega arith), lt-leb (c .before .before .before .before .before .before .args .byte) 57 (omega arith), le-leb 65 (c .before .before .before .before .before .before .args .byte) (omega arith), lt-leb (c .before .before .before .before .before .before .args .byte) 70 (omega arith), le-leb 97 (c .before .before .before .before .before .before .args .byte) (omega arith), le-leb (c .before .before .before .before .before .before .args .byte) 102 (omega arith))
+returns-3 c =
+    let b = c .before .before .before .before .before .before .args .byte in
+    simp (lt-leb b 57 (omega arith), lt-leb b 70 (omega arith), and-false, le-leb 97 b (omega arith), le-leb b 102 (omega arith))
 
 returns-4 : tie.Need-returns-4
 unfolding digitOf
-returns-4 c = simp (lt-leb 48 (c .before .args .byte) (omega arith), lt-leb 65 (c .before .args .byte) (omega arith), lt-leb 97 (c .before .args .byte) (omega arith))
+returns-4 c = let b = c .before .args .byte in simp (lt-leb 48 b (omega arith), lt-leb 65 b (omega arith), lt-leb 97 b (omega arith))
 
 returns-5 : tie.Need-returns-5
 unfolding digitOf
-returns-5 c = simp (lt-leb (c .before .before .before .args .byte) 57 (omega arith), lt-leb 65 (c .before .before .before .args .byte) (omega arith), lt-leb 97 (c .before .before .before .args .byte) (omega arith), and-false)
+returns-5 c = let b = c .before .before .before .args .byte in simp (lt-leb b 57 (omega arith), and-false, lt-leb 65 b (omega arith), lt-leb 97 b (omega arith))
 
 returns-6 : tie.Need-returns-6
 unfolding digitOf
-returns-6 c = simp (lt-leb (c .before .before .before .before .before .args .byte) 57 (omega arith), lt-leb (c .before .before .before .before .before .args .byte) 70 (omega arith), lt-leb 97 (c .before .before .before .before .before .args .byte) (omega arith), and-false)
+returns-6 c =
+    let b = c .before .before .before .before .before .args .byte in
+    simp (lt-leb b 57 (omega arith), lt-leb b 70 (omega arith), and-false, lt-leb 97 b (omega arith))
 
 returns-7 : tie.Need-returns-7
 unfolding digitOf
-returns-7 c = simp (lt-leb (c .before .before .before .before .before .before .args .byte) 57 (omega arith), lt-leb (c .before .before .before .before .before .before .args .byte) 70 (omega arith), lt-leb (c .before .before .before .before .before .before .args .byte) 102 (omega arith), and-false)
+returns-7 c =
+    let b = c .before .before .before .before .before .before .args .byte in
+    simp (lt-leb b 57 (omega arith), lt-leb b 70 (omega arith), lt-leb b 102 (omega arith), and-false)
 
 pub digit-of-spec : {M : Type 1} → statement M
 digit-of-spec =

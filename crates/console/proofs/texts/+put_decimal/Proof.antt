@@ -8,68 +8,77 @@ use borrow.Fn.Kinds.{In}
 use borrow.Fn.PlainCycle.{Measures, is, falls, and}
 use Rattle.console.proofs.TextLaws.{sets-last, decimal-none, decimal-one, decimal-more, decimal-length}
 use Rattle.console.proofs.texts.+put_decimal.{statement}
-use Rattle.console.proofs.texts.put_decimal.Reads as put-decimal
-use Rattle.console.proofs.texts.put_decimal.Kinds as put-decimal-kinds
-use Rattle.console.proofs.texts.+put_decimal.Lts-put_decimal as put-decimal-lts
-use Rattle.console.proofs.texts.put_digit.Reads as put-digit-reads
+use Rattle.console.proofs.texts.put_decimal.Reads as own
+use Rattle.console.proofs.texts.put_decimal.Kinds as kinds
+use Rattle.console.proofs.texts.+put_decimal.Lts-put_decimal as lts
+use Rattle.console.proofs.texts.put_digit.Reads as digit
 use Rattle.console.proofs.texts.+put_decimal.Tie.{close}
 
-abbrev μ-put-decimal : Measures 1 put-decimal-kinds.ps ℕ
-μ-put-decimal κs a = a .1 .1 .0
+abbrev μ : Measures 1 kinds.ps ℕ
+μ κs a = a .1 .1 .0
 
-abbrev put-decimal-at : ℕ → In 1 put-decimal-kinds.ps
-put-decimal-at t =
-    and 1 put-decimal-kinds.ps (is 1 put-decimal-kinds.ps μ-put-decimal t) put-decimal.Pre
+abbrev here : ℕ → In 1 kinds.ps
+here t = and 1 kinds.ps (is 1 kinds.ps μ t) own.Pre
 
-abbrev put-decimal-below : ℕ → In 1 put-decimal-kinds.ps
-put-decimal-below t =
-    and 1 put-decimal-kinds.ps (falls 1 put-decimal-kinds.ps _<_ μ-put-decimal t) put-decimal.Pre
+abbrev below : ℕ → In 1 kinds.ps
+below t = and 1 kinds.ps (falls 1 kinds.ps _<_ μ t) own.Pre
 
-put-decimal-returns : (t : ℕ) → put-decimal-lts.Need-returns (put-digit-reads.Asked, put-digit-reads.Learnt, put-decimal-below t, put-decimal.Post) (put-decimal-at t) put-decimal.Post
-put-decimal-returns t c = rw (decimal-none (c .before .before .args .places) (c .before .before .args .n) (c .if1 .taken)) (sym (add-zero _), refl)
+module _ (t : ℕ) where
+  returns : lts.Need-returns (digit.Asked, digit.Learnt, below t, own.Post) (here t) own.Post
+  returns c = rw (decimal-none _ _ (c .if1 .taken)) (sym (add-zero _), refl)
 
-put-decimal-put-digit-requires : (t : ℕ) → put-decimal-lts.Need-put-digit-requires (put-digit-reads.Asked, put-digit-reads.Learnt, put-decimal-below t, put-decimal.Post) (put-decimal-at t) put-decimal.Post
-put-decimal-put-digit-requires t c κs = (omega (arith, pos-of-ne-zero (c .before .before .if1 .left), c .before .before .before .before .pre .1), c .before .if2 .taken)
+  put-digit-requires : lts.Need-put-digit-requires (digit.Asked, digit.Learnt, below t, own.Post) (here t) own.Post
+  put-digit-requires c κs = let i = c .before .before in (omega (arith, pos-of-ne-zero (i .if1 .left), i .before .before .pre .1), c .before .if2 .taken)
 
-put-decimal-add-result : (t : ℕ) → put-decimal-lts.Need-add-result (put-digit-reads.Asked, put-digit-reads.Learnt, put-decimal-below t, put-decimal.Post) (put-decimal-at t) put-decimal.Post
-put-decimal-add-result t c = omega (arith, pos-of-ne-zero (c .before .before .before .before .before .if1 .left), c .before .before .before .before .before .before .before .pre .1, c .before .before .before .before .before .before .before .good .0 .0)
+  add-result : lts.Need-add-result (digit.Asked, digit.Learnt, below t, own.Post) (here t) own.Post
+  add-result c =
+      let i = c .before .before .before .before .before in let some = pos-of-ne-zero (i .if1 .left) in
+      omega (arith, i .before .before .pre .1, i .before .before .good .0 .0)
 
-put-decimal-same-length : (t : ℕ) → put-decimal-lts.Need-same-length (put-digit-reads.Asked, put-digit-reads.Learnt, put-decimal-below t, put-decimal.Post) (put-decimal-at t) put-decimal.Post
-put-decimal-same-length t c = c .before .before .put-digit .kept .0
+  same-length : lts.Need-same-length (digit.Asked, digit.Learnt, below t, own.Post) (here t) own.Post
+  same-length c = c .before .before .put-digit .kept .0
 
-put-decimal-returns-2 : (t : ℕ) → put-decimal-lts.Need-returns-2 (put-digit-reads.Asked, put-digit-reads.Learnt, put-decimal-below t, put-decimal.Post) (put-decimal-at t) put-decimal.Post
-put-decimal-returns-2 t c = rw (decimal-one (c .before .before .before .before .before .before .before .args .places) (c .before .before .before .before .before .before .before .args .n) (c .before .before .before .before .before .if1 .left) (c .before .before .before .before .if2 .taken)) (refl, c .before .before .put-digit .ensures)
+  returns-2 : lts.Need-returns-2 (digit.Asked, digit.Learnt, below t, own.Post) (here t) own.Post
+  returns-2 c = let i = c .before .before .before .before in rw (decimal-one _ _ (i .before .if1 .left) (i .if2 .taken)) (refl, cc)
 
-put-decimal-sub-put-decimal : (t : ℕ) → put-decimal-lts.Need-sub-put-decimal (put-digit-reads.Asked, put-digit-reads.Learnt, put-decimal-below t, put-decimal.Post) (put-decimal-at t) put-decimal.Post
-put-decimal-sub-put-decimal t c = pos-of-ne-zero (c .before .before .if1 .left)
+  sub-put-decimal : lts.Need-sub-put-decimal (digit.Asked, digit.Learnt, below t, own.Post) (here t) own.Post
+  sub-put-decimal c = pos-of-ne-zero (c .before .before .if1 .left)
 
-put-decimal-put-decimal-requires : (t : ℕ) → put-decimal-lts.Need-put-decimal-requires (put-digit-reads.Asked, put-digit-reads.Learnt, put-decimal-below t, put-decimal.Post) (put-decimal-at t) put-decimal.Post
-put-decimal-put-decimal-requires t c κs = (omega (arith, pos-of-ne-zero (c .before .before .if1 .left), c .before .before .before .before .pre .0), omega (arith, c .before .before .before .before .pre .1))
+  put-decimal-requires : lts.Need-put-decimal-requires (digit.Asked, digit.Learnt, below t, own.Post) (here t) own.Post
+  put-decimal-requires c κs = let some = pos-of-ne-zero (c .before .before .if1 .left) in (omega arith, omega arith)
 
-put-decimal-put-digit-requires-2 : (t : ℕ) → put-decimal-lts.Need-put-digit-requires-2 (put-digit-reads.Asked, put-digit-reads.Learnt, put-decimal-below t, put-decimal.Post) (put-decimal-at t) put-decimal.Post
-put-decimal-put-digit-requires-2 t c κs = (omega (arith, pos-of-ne-zero (c .before .before .before .before .before .before .if1 .left), c .before .before .before .before .before .before .before .before .pre .1, c .before .before .before .put-decimal .kept .0, c .before .before .before .put-decimal .ensures .0, decimal-length (c .before .before .before .before .before .before .before .before .args .places - 1) (c .before .before .before .before .before .before .before .before .args .n / 10)), omega arith)
+  put-digit-requires-2 : lts.Need-put-digit-requires-2 (digit.Asked, digit.Learnt, below t, own.Post) (here t) own.Post
+  put-digit-requires-2 c κs =
+      let d = c .before .before .before in let i = d .before .before .before in let s = i .before .before in let e = d .put-decimal .ensures .0 in
+      let few = decimal-length (s .args .places - 1) (s .args .n / 10) in
+      (omega (arith, pos-of-ne-zero (i .if1 .left), s .pre .1, d .put-decimal .kept .0), omega arith)
 
-put-decimal-add-result-2 : (t : ℕ) → put-decimal-lts.Need-add-result-2 (put-digit-reads.Asked, put-digit-reads.Learnt, put-decimal-below t, put-decimal.Post) (put-decimal-at t) put-decimal.Post
-put-decimal-add-result-2 t c = omega (arith, pos-of-ne-zero (c .before .before .before .before .before .before .before .before .before .if1 .left), c .before .before .before .before .before .before .before .before .before .before .before .pre .1, c .before .before .before .before .before .before .before .before .before .before .before .good .0 .0, c .before .before .before .before .before .before .put-decimal .ensures .0, decimal-length (c .before .before .before .before .before .before .before .before .before .before .before .args .places - 1) (c .before .before .before .before .before .before .before .before .before .before .before .args .n / 10))
+  add-result-2 : lts.Need-add-result-2 (digit.Asked, digit.Learnt, below t, own.Post) (here t) own.Post
+  add-result-2 c =
+      let d = c .before .before .before .before .before .before in let i = d .before .before .before in let s = i .before .before in
+      omega (arith, pos-of-ne-zero (i .if1 .left), s .pre .1, s .good .0 .0, d .put-decimal .ensures .0, decimal-length (s .args .places - 1) (s .args .n / 10))
 
-put-decimal-same-length-2 : (t : ℕ) → put-decimal-lts.Need-same-length-2 (put-digit-reads.Asked, put-digit-reads.Learnt, put-decimal-below t, put-decimal.Post) (put-decimal-at t) put-decimal.Post
-put-decimal-same-length-2 t c = c .before .before .put-digit2 .kept .0 ∙ c .before .before .before .before .before .before .put-decimal .kept .0
+  same-length-2 : lts.Need-same-length-2 (digit.Asked, digit.Learnt, below t, own.Post) (here t) own.Post
+  same-length-2 c = c .before .before .put-digit2 .kept .0 ∙ c .before .before .before .before .before .before .put-decimal .kept .0
 
-put-decimal-returns-3 : (t : ℕ) → put-decimal-lts.Need-returns-3 (put-digit-reads.Asked, put-digit-reads.Learnt, put-decimal-below t, put-decimal.Post) (put-decimal-at t) put-decimal.Post
-put-decimal-returns-3 t c = rw (decimal-more (c .before .before .before .before .before .before .before .before .before .before .before .args .places) (c .before .before .before .before .before .before .before .before .before .before .before .args .n) (c .before .before .before .before .before .before .before .before .before .if1 .left) (c .before .before .before .before .before .before .before .before .if2 .left)) (rw (length-append, c .before .before .before .before .before .before .put-decimal .ensures .0) (omega arith), rw (c .before .before .put-digit2 .ensures, c .before .before .before .before .before .before .put-decimal .ensures .1, c .before .before .before .before .before .before .put-decimal .ensures .0, sets-last))
+  returns-3 : lts.Need-returns-3 (digit.Asked, digit.Learnt, below t, own.Post) (here t) own.Post
+  returns-3 c =
+      let d = c .before .before .before .before .before .before in let i = d .before .before in let e = d .put-decimal .ensures in
+      rw (decimal-more _ _ (i .before .if1 .left) (i .if2 .left))
+      (rw (length-append, e .0) (omega arith), rw (c .before .before .put-digit2 .ensures, e .1, e .0, sets-last))
 
 pub +put-decimal-spec : {M : Type 1} → statement M
 +put-decimal-spec =
-    close μ-put-decimal
-    (λ t. put-decimal-lts.spec (put-digit-reads.Asked, put-digit-reads.Learnt, put-decimal-below t, put-decimal.Post) (put-decimal-at t) put-decimal.Post
-    (put-decimal-returns t)
-    (put-decimal-put-digit-requires t)
-    (put-decimal-add-result t)
-    (put-decimal-same-length t)
-    (put-decimal-returns-2 t)
-    (put-decimal-sub-put-decimal t)
-    (put-decimal-put-decimal-requires t)
-    (put-decimal-put-digit-requires-2 t)
-    (put-decimal-add-result-2 t)
-    (put-decimal-same-length-2 t)
-    (put-decimal-returns-3 t))
+    close μ
+    (λ t. lts.spec (digit.Asked, digit.Learnt, below t, own.Post) (here t) own.Post
+    (returns t)
+    (put-digit-requires t)
+    (add-result t)
+    (same-length t)
+    (returns-2 t)
+    (sub-put-decimal t)
+    (put-decimal-requires t)
+    (put-digit-requires-2 t)
+    (add-result-2 t)
+    (same-length-2 t)
+    (returns-3 t))

@@ -4,7 +4,7 @@ use Prim.Native.Nat.{zero-le}
 use native.Mathlib.Omega.{arith}
 use borrow.Author.Needs.{needs}
 use Rattle.console.specs.Texts.{answerText, okay, no, line, unread, newline}
-use Rattle.console.proofs.TextLaws.{numbered-fits, counted}
+use Rattle.console.proofs.TextLaws.{counted}
 use Rattle.console.proofs.texts.answer_text.Statement.{statement}
 use Rattle.console.proofs.texts.answer_text.Tie as tie
 
@@ -55,11 +55,11 @@ put-numbered-requires-3 c κs = search needs
 
 returns : tie.Need-returns
 unfolding answerText
-returns c = rw (c .before .before .before .before .before .answer .given .1) (c .put-numbered .ensures, counted _ _ (omega (arith, numbered-fits okay newline _ (c .put-numbered .ensures .0), c .put-numbered .kept .0)))
+returns c = let p = c .put-numbered in rw (c .before .before .before .before .before .answer .given .1) (counted okay newline _ _ (p .ensures) (omega arith))
 
 returns-2 : tie.Need-returns-2
 unfolding answerText
-returns-2 c = rw (c .before .before .before .before .before .answer2 .given .1) (c .put-numbered2 .ensures, counted _ _ (omega (arith, numbered-fits no newline _ (c .put-numbered2 .ensures .0), c .put-numbered2 .kept .0)))
+returns-2 c = let p = c .put-numbered2 in rw (c .before .before .before .before .before .answer2 .given .1) (counted no newline _ _ (p .ensures) (omega arith))
 
 returns-3 : tie.Need-returns-3
 unfolding answerText
@@ -67,7 +67,7 @@ returns-3 c = rw (c .enum-told .given .1) ((refl, refl), (zero-le, refl))
 
 returns-4 : tie.Need-returns-4
 unfolding answerText
-returns-4 c = rw (c .before .before .before .before .enum-told2 .given .1) (c .put-numbered3 .ensures, counted _ _ (omega (arith, numbered-fits line unread _ (c .put-numbered3 .ensures .0), c .put-numbered3 .kept .0)))
+returns-4 c = let p = c .put-numbered3 in rw (c .before .before .before .before .enum-told2 .given .1) (counted line unread _ _ (p .ensures) (omega arith))
 
 pub answer-text-spec : {M : Type 1} → statement M
 answer-text-spec =

@@ -34,7 +34,7 @@ loop-less : tie.Need-loop-less Inv-loop μ-loop
 loop-less c = omega arith
 
 loop-again : tie.Need-loop-again Inv-loop μ-loop
-loop-again c = (omega arith, simp length-set (c .before .before .loop .inv .1), sym (sets-next _ _ _ _ (c .before .loop-test .taken)) ∙ c .before .before .loop .inv .2)
+loop-again c = let l = c .before .before .loop in (omega arith, simp length-set (l .inv .1), sym (sets-next _ _ _ _ (c .before .loop-test .taken)) ∙ l .inv .2)
 
 add-result : tie.Need-add-result Inv-loop μ-loop
 add-result c = omega arith

@@ -40,7 +40,9 @@ same-length c = search needs
 
 returns : tie.Need-returns
 unfolding byteText
-returns c = rw (← c .before .before .hex-digit .ensures, ← c .before .hex-digit2 .ensures, ← c .separator .ensures) (three-sets (c .before .before .before .before .args .out .now) (3 * c .before .before .before .before .args .i) (c .before .before .hex-digit .result) (c .before .hex-digit2 .result) (c .separator .result))
+returns c =
+    let a = c .before .before .before .before .args in
+    rw (← c .before .before .hex-digit .ensures, ← c .before .hex-digit2 .ensures, ← c .separator .ensures) (three-sets (a .out .now) (3 * a .i) _ _ _)
 
 pub put-byte-spec : {M : Type 1} → statement M
 put-byte-spec =

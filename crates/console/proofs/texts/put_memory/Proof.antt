@@ -31,7 +31,9 @@ loop-less : tie.Need-loop-less Inv-loop μ-loop
 loop-less c = omega arith
 
 loop-again : tie.Need-loop-again Inv-loop μ-loop
-loop-again c = (omega arith, c .before .before .put-byte .kept .0 ∙ c .before .before .before .before .before .before .loop .inv .1, rw (c .before .before .put-byte .ensures) (sym (memory-on _ _ _ (c .before .before .before .before .before .loop-test .taken)) ∙ c .before .before .before .before .before .before .loop .inv .2))
+loop-again c =
+    let l = c .before .before .before .before .before .before .loop in let p = c .before .before .put-byte in
+    (omega arith, p .kept .0 ∙ l .inv .1, rw (p .ensures) (sym (memory-on _ _ _ (c .before .before .before .before .before .loop-test .taken)) ∙ l .inv .2))
 
 same-length : tie.Need-same-length Inv-loop μ-loop
 same-length c = c .before .loop .inv .1

@@ -6,7 +6,7 @@ use lib.ListN.{length, drop}
 use borrow.Author.Needs.{needs}
 use borrow.Author.Tests.{not-true, not-false}
 use Rattle.console.specs.Inner.{span}
-use Rattle.console.proofs.ScanLaws.{span-here, span-one, span-end, span-stop, span-on}
+use Rattle.console.proofs.ScanLaws.{span-end, span-stop, span-on}
 use Rattle.console.proofs.words.span.Statement.{statement}
 use Rattle.console.proofs.words.span.Tie as tie
 
@@ -26,7 +26,9 @@ matches-requires : tie.Need-matches-requires Inv-loop μ-loop
 matches-requires c κs = search needs
 
 returns : tie.Need-returns Inv-loop μ-loop
-returns c = span-here _ _ _ (c .before .before .before .before .loop .inv .1) (span-stop _ _ _ (c .before .before .before .loop-test .taken) (sym (c .before .matches .ensures) ∙ not-true _ (c .if1 .taken)))
+returns c =
+    let s = c .before .before .before .before .before .before .args .s .now in
+    omega (arith, span-stop _ s _ (c .before .before .before .loop-test .taken) (sym (c .before .matches .ensures) ∙ not-true _ (c .if1 .taken)))
 
 add-i : tie.Need-add-i Inv-loop μ-loop
 add-i c = omega arith
@@ -35,10 +37,12 @@ loop-less : tie.Need-loop-less Inv-loop μ-loop
 loop-less c = omega arith
 
 loop-again : tie.Need-loop-again Inv-loop μ-loop
-loop-again c = (omega arith, span-one _ _ _ _ (c .before .before .before .before .loop .inv .1) (span-on _ _ _ (c .before .before .before .loop-test .taken) (sym (c .before .matches .ensures) ∙ not-false _ (c .if1 .left))))
+loop-again c =
+    let s = c .before .before .before .before .before .before .args .s .now in
+    (omega arith, omega (arith, span-on _ s _ (c .before .before .before .loop-test .taken) (sym (c .before .matches .ensures) ∙ not-false _ (c .if1 .left))))
 
 returns-2 : tie.Need-returns-2 Inv-loop μ-loop
-returns-2 c = span-here _ _ _ (c .before .loop .inv .1) (span-end _ _ _ (c .loop-test .left))
+returns-2 c = let a = c .before .before .before .args in omega (arith, span-end (a .blank) (a .s .now) _ (c .loop-test .left))
 
 pub span-spec : {M : Type 1} → statement M
 span-spec =
