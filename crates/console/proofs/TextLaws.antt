@@ -1,5 +1,5 @@
 -- Text laid into a buffer piece by piece: what is laid after a piece goes on from the piece's end.
-use mathlib.Core.Path.{_≡_, refl, sym, ap, _∙_}
+use mathlib.Core.Path.{_≡_, refl, sym, _∙_}
 use mathlib.Core.List.{List, [], _∷_, _++_, append-nil, append-assoc}
 use Prim.Native.Nat.{ℕ, zero, suc, _+_, _-_, _*_, _/_, _%_, _≤_, _<_, zero-le, suc-le-suc}
 use native.Mathlib.Nat.{add-zero, add-suc, suc-add}

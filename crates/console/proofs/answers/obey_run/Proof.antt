@@ -1,8 +1,6 @@
 -- `obey_run` is the run's answer, with its refusal or its positions told.
-use mathlib.Core.Path.{ap, _∙_}
 use borrow.Author.Needs.{needs}
-use Rattle.coprocessor.specs.declared.Drawn.{Drawn}
-use Rattle.console.specs.Answers.{outcomeOf, runTold}
+use Rattle.console.specs.Answers.{runTold}
 use Rattle.console.proofs.answers.obey_run.Statement.{statement}
 use Rattle.console.proofs.answers.obey_run.Tie as tie
 

@@ -1,8 +1,6 @@
 -- `obey_write` is the write's answer, with its refusal told.
-use mathlib.Core.Path.{ap, _∙_}
 use borrow.Author.Needs.{needs}
-use Rattle.coprocessor.specs.declared.Written.{Written}
-use Rattle.console.specs.Answers.{outcomeOf, writeTold}
+use Rattle.console.specs.Answers.{writeTold}
 use Rattle.console.proofs.answers.obey_write.Statement.{statement}
 use Rattle.console.proofs.answers.obey_write.Tie as tie
 

@@ -1,7 +1,6 @@
 -- `destination` is the place on the destination's circle: the difference of two small numbers fits the machine's.
 use Prim.Native.Nat.{ℕ, _+_, _%_}
 use native.Mathlib.Omega.{arith}
-use lib.IntN.{subℕ}
 use mir.Syntax.{w16}
 use mir.ValLaws.{toZ-ofZ, toZ-pos}
 use Rattle.numbers.specs.Circles.{circle, forth, residue}

@@ -1,7 +1,6 @@
 -- `term` is the place on the circle of E, K1 and K2: the difference of two small numbers fits the machine's.
 use Prim.Native.Nat.{ℕ, _+_, _%_}
 use native.Mathlib.Omega.{arith}
-use lib.IntN.{subℕ}
 use mir.Syntax.{w32}
 use mir.ValLaws.{toZ-ofZ, toZ-pos}
 use Rattle.numbers.specs.Circles.{circle, forth, residue}
