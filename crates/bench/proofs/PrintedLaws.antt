@@ -11,9 +11,9 @@ use Rattle.console.specs.Commands.{lineCommand}
 use Rattle.console.specs.Gathered.{commandIn}
 use Rattle.console.proofs.GatherLaws.{bufferAfter, countsAfter, buffer-length, line-gathered, buffer-last, counts-last, counts-some}
 use Rattle.console.specs.Texts.{memoryText}
-use Rattle.console.specs.Answers.{toldOf, memoryAfter}
-use Rattle.bench.specs.Printed.{byteBefore, linesOf, BenchState, lineAfter, stateAfter, lineText, stateAfterAll, textOfAll, firstState, printed}
-use Rattle.bench.specs.Inner.{Session, lineEnded, byteGathered, byteTaken, bytesTaken, endPrinted, bytePrinted, inputEnded, lastPrinted, bytesPrinted, firstSession}
+use Rattle.bench.specs.Printed.{byteBefore, linesOf, BenchState, stateAfter, lineText, stateAfterAll, textOfAll, firstState, printed}
+use Rattle.bench.specs.Inner.{Session, lineEnded, byteGathered, byteTaken, bytesTaken, inputEnded, firstSession}
+use Rattle.bench.specs.Inner.{endPrinted, bytePrinted, lastPrinted, bytesPrinted}
 
 -- ---- the lines of an input
 
@@ -60,7 +60,7 @@ module _ (buffer came : List ℕ) (s : BenchState) (room : length buffer ≡ 256
   -- where the line ends it is done
   ended-at : lineEnded (sessionAt buffer came s) ≡ sessionAt (bufferAfter buffer 0 came) [] (stateAfter came s)
   unfolding lineEnded stateAfter bufferAfter countsAfter
-  ended-at = λ i. record { board = toldOf (command-at i) (s .board) (s .memory) .coprocessor; memory = memoryAfter (command-at i) (s .board) (s .memory); buffer = bufferAfter buffer 0 came; count = 0; line = lineAfter (s .line) }
+  ended-at = rw command-at
 
   printed-at : endPrinted (sessionAt buffer came s) ≡ lineText came s
   unfolding endPrinted lineText

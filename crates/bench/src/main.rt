@@ -70,7 +70,8 @@ fn take_byte(bench: Bench, byte: u8, buffer: &mut [u8; 256], memory: &mut [u8; 6
 
 // Takes a piece of the input byte by byte.
 fn take_piece(bench: Bench, piece: &[u8], buffer: &mut [u8; 256], memory: &mut [u8; 64]) -> Bench
-    ensures { λ r. ⌜ sessionOf r (now (memory .exit)) (now (buffer .exit)) ≡ bytesTaken (now (piece .entry)) (sessionOf bench (now (memory .entry)) (now (buffer .entry))) ⌝ }
+    ensures { λ r. ⌜ sessionOf r (now (memory .exit)) (now (buffer .exit))
+        ≡ bytesTaken (now (piece .entry)) (sessionOf bench (now (memory .entry)) (now (buffer .entry))) ⌝ }
 {
     let mut state = bench;
     let mut i = 0;

@@ -1,9 +1,5 @@
 -- `end_line` does the command that the buffer holds, and each part of the session is what the calls promise.
-use mathlib.Core.Path.{ap, _∙_}
 use borrow.Author.Needs.{needs}
-use Rattle.console.specs.declared.Command.{Command}
-use Rattle.console.specs.declared.answers.Told.{Told}
-use Rattle.console.specs.Answers.{toldOf, memoryAfter}
 use Rattle.bench.specs.Inner.{sessionOf, lineEnded}
 use Rattle.bench.proofs.end_line.Statement.{statement}
 use Rattle.bench.proofs.end_line.Tie as tie
@@ -25,7 +21,7 @@ both-requires c κs = search needs
 
 returns : tie.Need-returns
 unfolding sessionOf lineEnded
-returns c = λ i. record { board = (ap (λ (t : Told). t .coprocessor) (c .before .before .before .before .obey .ensures .0) ∙ ap (λ (command : Command). toldOf command (c .before .before .before .before .before .before .before .before .before .args .bench .board) (c .before .before .before .before .before .before .before .before .before .args .memory .now) .coprocessor) (c .before .before .before .before .before .before .before .command-in .ensures)) i; memory = (c .before .before .before .before .obey .ensures .1 ∙ ap (λ (command : Command). memoryAfter command (c .before .before .before .before .before .before .before .before .before .args .bench .board) (c .before .before .before .before .before .before .before .before .before .args .memory .now)) (c .before .before .before .before .before .before .before .command-in .ensures)) i; buffer = c .before .before .before .before .before .before .before .before .before .args .buffer .now; count = 0; line = c .before .before .next-line .ensures i }
+returns c = cc
 
 pub end-line-spec : {M : Type 1} → statement M
 end-line-spec =
