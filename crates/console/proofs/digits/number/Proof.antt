@@ -1,6 +1,7 @@
 -- `number` takes digit after digit into the number: with those that follow it stays the word's, and once too large it is none.
 use mathlib.Core.Path.{_≡_, sym, _∙_}
 use Prim.Native.Nat.{_+_, _-_, _*_, _^_, _≤_, _<_}
+use native.Mathlib.Nat.{pos-of-ne-zero}
 use native.Mathlib.Omega.{arith}
 use lib.ListN.{length, drop}
 use borrow.Author.Needs.{needs}
@@ -27,7 +28,7 @@ returns : tie.Need-returns Inv-loop μ-loop
 returns c = number-none _ _ (c .if1 .taken)
 
 loop-holds : tie.Need-loop-holds Inv-loop μ-loop
-loop-holds c = (omega arith, omega arith, number-begins _ _ (omega arith))
+loop-holds c = (omega arith, omega arith, number-begins _ _ (pos-of-ne-zero (c .if1 .left)))
 
 shared-slice-read-digit-of : tie.Need-shared-slice-read-digit-of Inv-loop μ-loop
 shared-slice-read-digit-of c = omega arith
