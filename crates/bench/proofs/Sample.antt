@@ -29,14 +29,25 @@ use Rattle.coprocessor.specs.Fresh.{sizeHolds, freshOf}
 use Rattle.coprocessor.specs.Runs.{setupOf, penOf, withPen, ranOf, runRefusal, runAnswer, runMemory}
 use Rattle.coprocessor.specs.Valid.{startRefusalOf, mapsReduced, pointersReduced, reducedOf, goesOn, validOf}
 use Rattle.coprocessor.specs.Writes.{stored, startsBy, started, startedRefusal, writeRefusal, settledBy, writeAnswer}
-use Rattle.lines.specs.Words.{isBlank, kept, split, wordsOf}
-use Rattle.lines.specs.Digits.{digitOf, digits, value, numberFrom, numberOf}
-use Rattle.lines.specs.Calls.{isLetter, writeOf, runOf, writeFrom, runFrom, callFrom, callOf, lineCall}
-use Rattle.texts.specs.Texts.{decimal, numbered, answerText, hexDigit, separatorOf, byteText, bytesText, memoryText}
-use Rattle.answers.specs.Answers.{answerOf, writeTold, runTold, toldOf, memoryAfter}
-use Rattle.bench.specs.Printed.{byteBefore, linesOf, lineAfter, standAfter, lineText, standAfterAll, textOfAll, firstStand, printed}
+use Rattle.console.specs.Words.{isBlank, kept, split, lineWords}
+use Rattle.console.specs.Digits.{digitOf, digits, value, numberFrom, wordNumber}
+use Rattle.console.specs.Commands.{isLetter, writeOf, runOf, writeFrom, runFrom, commandFrom, commandOf, lineCommand}
+use Rattle.console.specs.Texts.{decimal, numbered, answerText, hexDigit, separatorOf, byteText, bytesText, memoryText}
+use Rattle.console.specs.Answers.{outcomeOf, writeTold, runTold, toldOf, memoryAfter}
+use Rattle.bench.specs.Printed.{byteBefore, linesOf, lineAfter, stateAfter, lineText, stateAfterAll, textOfAll, firstState, printed}
 use Rattle.bench.specs.Sample.{sampleInput, sampleOutput}
 
 pub sample-printed : printed sampleInput ≡ sampleOutput
-unfolding bytesNumber byteOf covers latchedBytes latched forth residue circle field withField bitsOf startOf placeOf shiftOf neededOf byteAt pixelAt withPixel holdsOf conditionHolds tableBit logical merged mixed touched taken takenLow takenTerm takenDestination mapReduced termReduced termsReduced compareReduced pointReduced destinationReduced spotReduced registers among listed placed mapTaken termsTaken inkTaken compareTaken pointTaken spotTaken countersHold pointersHold mapAt formatHolds endHolds isMap isLine isCodes isBlock draws sourceIsColour usesSource usesPattern usesMask isSource isPattern fieldsHold mixesHold usedMaps formatsHold endsHold startRefusal sourceStarted patternStarted codeAt drawingStarted signOf courseOf flowOf sourceBy destinationBy penStepped penWith penGone lineError lineMoved movedBy moved lineStep turnedBy circledBy pointStepped spotStepped isForeground inkOf picked mixedPixel drawnBy drawn destinationPixel onZero isCompared fateOf isWithin columnOf onMap maskX maskY inMask isMove isFirst isLast nulledBy isNulled begun positioned stepped after sizeHolds freshOf setupOf penOf withPen ranOf runRefusal runAnswer runMemory startRefusalOf mapsReduced pointersReduced reducedOf goesOn validOf stored startsBy started startedRefusal writeRefusal settledBy writeAnswer isBlank kept split wordsOf digitOf digits value numberFrom numberOf isLetter writeOf runOf writeFrom runFrom callFrom callOf lineCall decimal numbered answerText hexDigit separatorOf byteText bytesText memoryText answerOf writeTold runTold toldOf memoryAfter byteBefore linesOf lineAfter standAfter lineText standAfterAll textOfAll firstStand printed sampleInput sampleOutput withInside isFill modeOf edgeOf rises placeX crossed
+unfolding bytesNumber byteOf covers latchedBytes latched forth residue circle field withField bitsOf startOf placeOf shiftOf neededOf byteAt pixelAt withPixel
+    holdsOf conditionHolds tableBit logical merged mixed touched taken takenLow takenTerm takenDestination mapReduced termReduced termsReduced compareReduced
+    pointReduced destinationReduced spotReduced registers among listed placed mapTaken termsTaken inkTaken compareTaken pointTaken spotTaken countersHold
+    pointersHold mapAt formatHolds endHolds isMap isLine isCodes isBlock draws sourceIsColour usesSource usesPattern usesMask isSource isPattern fieldsHold
+    mixesHold usedMaps formatsHold endsHold startRefusal sourceStarted patternStarted codeAt drawingStarted signOf courseOf flowOf sourceBy destinationBy
+    penStepped penWith penGone lineError lineMoved movedBy moved lineStep turnedBy circledBy pointStepped spotStepped isForeground inkOf picked mixedPixel
+    drawnBy drawn destinationPixel onZero isCompared fateOf isWithin columnOf onMap maskX maskY inMask isMove isFirst isLast nulledBy isNulled begun
+    positioned stepped after sizeHolds freshOf setupOf penOf withPen ranOf runRefusal runAnswer runMemory startRefusalOf mapsReduced pointersReduced reducedOf
+    goesOn validOf stored startsBy started startedRefusal writeRefusal settledBy writeAnswer isBlank kept split lineWords digitOf digits value numberFrom
+    wordNumber isLetter writeOf runOf writeFrom runFrom commandFrom commandOf lineCommand decimal numbered answerText hexDigit separatorOf byteText bytesText
+    memoryText outcomeOf writeTold runTold toldOf memoryAfter byteBefore linesOf lineAfter stateAfter lineText stateAfterAll textOfAll firstState printed
+    sampleInput sampleOutput withInside isFill modeOf edgeOf rises placeX crossed
 sample-printed = refl

@@ -6,9 +6,9 @@ use lib.Dec.{ltb, eqb}
 use Rattle.numbers.specs.Choose.{choose}
 use Rattle.coprocessor.specs.declared.Coprocessor.{Coprocessor}
 use Rattle.coprocessor.specs.Fresh.{freshAnswer}
-use Rattle.answers.specs.Answers.{toldOf, memoryAfter}
-use Rattle.lines.specs.Gathered.{countAfter, callIn}
-use Rattle.texts.specs.Texts.{answerText}
+use Rattle.console.specs.Answers.{toldOf, memoryAfter}
+use Rattle.console.specs.Gathered.{countAfter, commandIn}
+use Rattle.console.specs.Texts.{answerText}
 use Rattle.bench.specs.declared.Bench.{Bench}
 use Rattle.bench.specs.Printed.{lineAfter}
 
@@ -24,12 +24,12 @@ unfoldable pub sessionOf : Bench → List ℕ → List ℕ → Session
 sessionOf bench memory buffer =
     record { board = bench .board; memory = memory; buffer = buffer; count = bench .count; line = bench .line }
 
--- at a line's end its call is done, and the next line begins
+-- at a line's end its command is done, and the next line begins
 unfoldable pub lineEnded : Session → Session
 lineEnded s =
     record {
-      board = toldOf (callIn (s .buffer) (s .count)) (s .board) (s .memory) .coprocessor;
-      memory = memoryAfter (callIn (s .buffer) (s .count)) (s .board) (s .memory);
+      board = toldOf (commandIn (s .buffer) (s .count)) (s .board) (s .memory) .coprocessor;
+      memory = memoryAfter (commandIn (s .buffer) (s .count)) (s .board) (s .memory);
       buffer = s .buffer;
       count = 0;
       line = lineAfter (s .line);
@@ -59,7 +59,7 @@ bytesTaken (byte ∷ bytes) s = bytesTaken bytes (byteTaken byte s)
 
 -- the text of the line in the buffer, as `end_line` has it printed
 unfoldable pub endPrinted : Session → List ℕ
-endPrinted s = answerText (toldOf (callIn (s .buffer) (s .count)) (s .board) (s .memory) .answer) (s .line)
+endPrinted s = answerText (toldOf (commandIn (s .buffer) (s .count)) (s .board) (s .memory) .answer) (s .line)
 
 -- `take_byte` ends the line at a newline
 unfoldable pub bytePrinted : ℕ → Session → List ℕ

@@ -1,17 +1,17 @@
-// The bench: reads calls line by line from standard input, does them over 64 zero bytes, answers each, and shows the memory.
+// The bench: reads commands line by line from standard input, does them over 64 zero bytes, answers each, and shows the memory.
 ghost use mathlib.Core.Path.{_≡_};
 ghost use Rattle.bench.specs.Printed.{lineAfter};
 ghost use Rattle.bench.specs.Inner.{sessionOf, lineEnded, byteTaken, bytesTaken};
-use answers::obey;
+use console::Answer;
+use console::answers::obey;
+use console::gather::command_in;
+use console::gather::gather;
+use console::texts::answer_text;
+use console::texts::memory_text;
 use coprocessor::Coprocessor;
 use libc::STDIN_FILENO;
 use libc::STDOUT_FILENO;
-use lines::gather::call_in;
-use lines::gather::gather;
 use parts::reduced::both;
-use texts::Answer;
-use texts::answer_text;
-use texts::memory_text;
 
 // The bench between two bytes: the record, the bytes of the line under way, that line's number, and whether to go on.
 struct Bench {
@@ -39,9 +39,9 @@ fn print(answer: Answer, line: u64) -> bool {
 fn end_line(bench: Bench, buffer: &[u8; 256], memory: &mut [u8; 64]) -> Bench
     ensures { λ r. ⌜ sessionOf r (now (memory .exit)) (now (buffer .entry)) ≡ lineEnded (sessionOf bench (now (memory .entry)) (now (buffer .entry))) ⌝ }
 {
-    let call = call_in(buffer, bench.count);
+    let command = command_in(buffer, bench.count);
     let board = bench.board;
-    let told = obey(call, board, memory);
+    let told = obey(command, board, memory);
     let answer = told.answer;
     let next = told.coprocessor;
     Bench {
@@ -70,7 +70,8 @@ fn take_byte(bench: Bench, byte: u8, buffer: &mut [u8; 256], memory: &mut [u8; 6
 
 // Takes a piece of the input byte by byte.
 fn take_piece(bench: Bench, piece: &[u8], buffer: &mut [u8; 256], memory: &mut [u8; 64]) -> Bench
-    ensures { λ r. ⌜ sessionOf r (now (memory .exit)) (now (buffer .exit)) ≡ bytesTaken (now (piece .entry)) (sessionOf bench (now (memory .entry)) (now (buffer .entry))) ⌝ }
+    ensures { λ r. ⌜ sessionOf r (now (memory .exit)) (now (buffer .exit))
+        ≡ bytesTaken (now (piece .entry)) (sessionOf bench (now (memory .entry)) (now (buffer .entry))) ⌝ }
 {
     let mut state = bench;
     let mut i = 0;

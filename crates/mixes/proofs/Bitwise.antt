@@ -1,4 +1,4 @@
--- An operation that works bit by bit is what it makes of single bits: two such that agree on these agree on all numbers of n bits, by induction on n.
+-- An operation that works bit by bit is what it makes of single bits: two that agree on these agree on all numbers of n bits, by induction on n.
 use mathlib.Core.Path.{_≡_, refl}
 use mathlib.Core.Bool.{Bool, _&&_}
 use Prim.Native.Nat.{ℕ, zero, suc, _+_, _-_, _*_, _/_, _%_, _^_, _<_}

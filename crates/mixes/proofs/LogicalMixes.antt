@@ -1,7 +1,8 @@
 -- The logical mixes: the truth table works bit by bit, so an operation that does so too is the mix of a code where four pairs of bits say so.
 use mathlib.Core.Path.{_≡_, refl}
-use Prim.Native.Nat.{ℕ, zero, suc, _+_, _*_, _/_, _%_, _^_, _<_}
-use native.Mathlib.Nat.{mod-mod}
+use mathlib.Core.Bool.{Bool}
+use Prim.Native.Nat.{ℕ, zero, suc, _+_, _-_, _*_, _/_, _%_, _^_, _<_}
+use native.Mathlib.Nat.{add-zero, mod-mod}
 use native.Mathlib.Omega.{arith}
 use lib.Dec.{T}
 use lib.Pow.{pow-pos}
@@ -37,6 +38,11 @@ logical-bitwise code =
       step = λ n m s d. logical-step n code s d;
     }
 
-pub is-logical : (code : ℕ) {f : ℕ → ℕ → ℕ → ℕ → ℕ} → Bitwise f → T (agree f (λ n m s d. logical n code s d))
+-- on single bits an operation is the table of this code
+abbrev pub tabled : ℕ → (ℕ → ℕ → ℕ → ℕ → ℕ) → Bool
+tabled code f = agree f (λ n m s d. code / 2 ^ (3 - (2 * s + d)) % 2)
+
+pub is-logical : (code : ℕ) {f : ℕ → ℕ → ℕ → ℕ → ℕ} → Bitwise f → T (tabled code f)
     → (n : ℕ) {s d : ℕ} → s < 2 ^ n → d < 2 ^ n → f n 0 s d ≡ logical n code s d
-is-logical code F t n hs hd = agree-all F (logical-bitwise code) t n 0 _ _ (pow-pos n) hs hd
+unfolding tableBit logical
+is-logical code F t n hs hd = agree-all F (logical-bitwise code) (simp add-zero t) n 0 _ _ (pow-pos n) hs hd

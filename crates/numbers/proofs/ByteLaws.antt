@@ -8,13 +8,14 @@ use native.Mathlib.Numerals.{add-one, add-two}
 use native.Mathlib.Omega.{arith}
 use lib.Arith.{mod-mul}
 use lib.Dec.{lit<}
-use lib.Pow.{field, shr-shr}
+use lib.Pow.{field, shr-shr, pow-add}
 use lib.ListN.{length, getD, take, drop, set}
 use lib.Seq.{sets, drop-cons}
 use borrow.Author.Tests.{le-leb, lt-ltb}
 use Rattle.numbers.specs.Choose.{choose}
 use Rattle.numbers.specs.Bytes.{le, numberOf, byteOf, covers, latchedBytes, latched}
 use Rattle.numbers.specs.declared.bytes.Write.{Write}
+use Rattle.numbers.proofs.Fields.{one-shl}
 
 -- ---- one byte
 
@@ -55,22 +56,13 @@ le-number (x ∷ b) bytes =
 
 -- ---- bytes as shifts
 
-pub two-pow-eight : (k : ℕ) → k ≤ 4 → 2 ^ (8 * k) ≡ 256 ^ k
-two-pow-eight zero h = refl
-two-pow-eight (suc zero) h = refl
-two-pow-eight (suc (suc zero)) h = refl
-two-pow-eight (suc (suc (suc zero))) h = refl
-two-pow-eight (suc (suc (suc (suc zero)))) h = refl
-two-pow-eight (suc (suc (suc (suc (suc k))))) h = absurd (omega arith)
+pub two-pow-eight : (k : ℕ) → 2 ^ (8 * k) ≡ 256 ^ k
+two-pow-eight zero = refl
+two-pow-eight (suc k) = let next : 8 * suc k ≡ 8 * k + 8 = omega arith in rw (next, pow-add, two-pow-eight k) (sym (pow-suc 256 k))
 
 -- a one shifted up by k bytes, at 64 bits
 pub one-shifted : (k : ℕ) → k ≤ 4 → 1 * 2 ^ (8 * k) % 2 ^ 64 ≡ 256 ^ k
-one-shifted zero h = refl
-one-shifted (suc zero) h = refl
-one-shifted (suc (suc zero)) h = refl
-one-shifted (suc (suc (suc zero))) h = refl
-one-shifted (suc (suc (suc (suc zero)))) h = refl
-one-shifted (suc (suc (suc (suc (suc k))))) h = absurd (omega arith)
+one-shifted k h = one-shl (8 * k) 64 (omega arith) ∙ two-pow-eight k
 
 -- ---- bytes laid, and read, one after another
 

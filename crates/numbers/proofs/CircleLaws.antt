@@ -1,8 +1,10 @@
--- The laws of numbers that come round: a remainder of whole numbers adds as natural ones do, because a negative number may be raised by any multiple of the size first.
+-- The laws of numbers that come round: remainders of whole numbers add as natural ones do, because a multiple of the size may first raise a negative number.
 use mathlib.Core.Path.{_≡_, refl, sym, ap, _∙_}
 use mathlib.Core.Bool.{Bool, true, false, cond}
 use Prim.Native.Nat.{ℕ, zero, suc, _+_, _-_, _*_, _/_, _%_, _≤_, _<_}
-use native.Mathlib.Nat.{mod-lt, mod-eq-of-lt, mod-mod, mod-self, zero-mod, add-mod, mod-add-mod, add-mod-mod, add-mul-mod-self-right, mul-add-mod-self-right, suc-mod, div-add-mod', div-lt-iff-lt-mul, add-comm, mul-le-mul-left, mod-eq-sub-mod, add-assoc, add-zero, sub-zero, add-mod-right, mul-pos, mod-one}
+use native.Mathlib.Nat.{mod-lt, mod-eq-of-lt, mod-mod, mod-self, mod-one, mod-eq-sub-mod, zero-mod, suc-mod, add-mod, add-mod-right, add-mod-mod, mod-add-mod}
+use native.Mathlib.Nat.{add-mul-mod-self-right, mul-add-mod-self-right, div-add-mod', div-lt-iff-lt-mul, mul-le-mul-left, mul-pos}
+use native.Mathlib.Nat.{add-comm, add-assoc, add-zero, sub-zero}
 use native.Mathlib.Omega.{arith}
 use lib.Arith.{digits-mod, mod-mul}
 use lib.Dec.{ltb}

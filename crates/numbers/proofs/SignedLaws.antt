@@ -2,7 +2,7 @@
 use mathlib.Core.Path.{_≡_, refl, sym, ap, _∙_}
 use mathlib.Core.Bool.{true, false}
 use Prim.Native.Nat.{ℕ, suc, _+_, _-_, _^_, _≤_, _<_}
-use native.Mathlib.Nat.{mod-eq-of-lt, lt-of-le-of-lt}
+use native.Mathlib.Nat.{mod-eq-of-lt, lt-of-le-of-lt, lt-of-lt-of-le}
 use native.Mathlib.Omega.{arith}
 use lib.IntN.{ℤ, pos, negsuc, natAbs, subℕ, _-ℤ_}
 use lib.Signed.{mag, ltZ}
@@ -38,7 +38,7 @@ residue-small size n h = rw (mod-eq-of-lt h)
 
 -- ---- a machine's number, by the test whether it is below 0
 
-module _ (w : Width) (z : ℤ) (f : SFits w z) where
+module _ {w : Width} {z : ℤ} (f : SFits w z) where
   pub below-zero : ltZ (toZ w (ofZ w z)) (pos 0) ≡ true → z ≡ negsuc (mag z)
   below-zero t = negative z (rw (toZ-ofZ w z f) at t)
 
@@ -48,9 +48,9 @@ module _ (w : Width) (z : ℤ) (f : SFits w z) where
   pub above-zero : ltZ (toZ w (ofZ w z)) (pos 0) ≡ false → z ≡ pos (mag z)
   above-zero t = natural z (rw (toZ-ofZ w z f) at t)
 
-  pub residue-below : (size : ℕ) → mag z < size → ltZ (toZ w (ofZ w z)) (pos 0) ≡ true → residue size z ≡ size - 1 - mag z
-  residue-below size h t = ap (residue size) (below-zero t) ∙ residue-small size (mag z) h
+  pub residue-below : (size : ℕ) → 2 ^ hbits w ≤ size → ltZ (toZ w (ofZ w z)) (pos 0) ≡ true → residue size z ≡ size - 1 - mag z
+  residue-below size h t = ap (residue size) (below-zero t) ∙ residue-small size (mag z) (lt-of-lt-of-le (f .sfits) h)
 
-  pub residue-above : (size : ℕ) → mag z < size → ltZ (toZ w (ofZ w z)) (pos 0) ≡ false → residue size z ≡ natAbs z
+  pub residue-above : (size : ℕ) → 2 ^ hbits w ≤ size → ltZ (toZ w (ofZ w z)) (pos 0) ≡ false → residue size z ≡ natAbs z
   unfolding residue
-  residue-above size h t = ap (residue size) (above-zero t) ∙ mod-eq-of-lt h ∙ sym (ap natAbs (above-zero t))
+  residue-above size h t = ap (residue size) (above-zero t) ∙ mod-eq-of-lt (lt-of-lt-of-le (f .sfits) h) ∙ sym (ap natAbs (above-zero t))

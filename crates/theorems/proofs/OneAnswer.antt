@@ -25,12 +25,12 @@ use Rattle.board.proofs.xga_run as xga-run
 use Rattle.board.proofs.xga_load as xga-load
 use Rattle.entry.proofs.write_in as write-in
 use Rattle.entry.proofs.write_own as write-own
-use Rattle.answers.proofs.obey as obey
-use Rattle.lines.proofs.calls.call_of as call-of
-use Rattle.lines.proofs.gather.gather as gather
-use Rattle.lines.proofs.gather.call_in as call-in
-use Rattle.texts.proofs.answer_text as answer-text
-use Rattle.texts.proofs.memory_text as memory-text
+use Rattle.console.proofs.answers.obey as obey
+use Rattle.console.proofs.commands.command_of as command-of
+use Rattle.console.proofs.gather.gather as gather
+use Rattle.console.proofs.gather.command_in as command-in
+use Rattle.console.proofs.texts.answer_text as answer-text
+use Rattle.console.proofs.texts.memory_text as memory-text
 use Rattle.theorems.specs.One.{One}
 
 module _ {M : Type 1} (𝓤 : URA M) where
@@ -100,8 +100,8 @@ module _ {M : Type 1} (𝓤 : URA M) (H : Heap 𝓤) (A : Atoms 𝓤) (mem : Mem
   pub write-own-one : One 𝓤 write-own.ended (write-own.clauses 𝓤 H A mem runs)
   write-own-one κs a g r s m n = either 𝓤 (said 𝓤) (said 𝓤) (λ p q. (p ∙ sym q, refl))
 
-  pub call-of-one : One 𝓤 call-of.ended (call-of.clauses 𝓤 H A mem runs)
-  call-of-one κs a g r s m n = either 𝓤 (said 𝓤) (said 𝓤) (λ p q. (p ∙ sym q, refl))
+  pub command-of-one : One 𝓤 command-of.ended (command-of.clauses 𝓤 H A mem runs)
+  command-of-one κs a g r s m n = either 𝓤 (said 𝓤) (said 𝓤) (λ p q. (p ∙ sym q, refl))
 
   pub obey-one : One 𝓤 obey.ended (obey.clauses 𝓤 H A mem runs)
   obey-one κs a g r s m n = either 𝓤 (said 𝓤) (said 𝓤) (λ p q. (p .0 ∙ sym (q .0), λ i. (tt, (tt, ((p .1 ∙ sym (q .1)) i, tt)))))
@@ -109,8 +109,8 @@ module _ {M : Type 1} (𝓤 : URA M) (H : Heap 𝓤) (A : Atoms 𝓤) (mem : Mem
   pub gather-one : One 𝓤 gather.ended (gather.clauses 𝓤 H A mem runs)
   gather-one κs a g r s m n = either 𝓤 (said 𝓤) (said 𝓤) (λ p q. (p .0 ∙ sym (q .0), λ i. ((p .1 ∙ sym (q .1)) i, (tt, (tt, tt)))))
 
-  pub call-in-one : One 𝓤 call-in.ended (call-in.clauses 𝓤 H A mem runs)
-  call-in-one κs a g r s m n = either 𝓤 (said 𝓤) (said 𝓤) (λ p q. (p ∙ sym q, refl))
+  pub command-in-one : One 𝓤 command-in.ended (command-in.clauses 𝓤 H A mem runs)
+  command-in-one κs a g r s m n = either 𝓤 (said 𝓤) (said 𝓤) (λ p q. (p ∙ sym q, refl))
 
   pub answer-text-one : One 𝓤 answer-text.ended (answer-text.clauses 𝓤 H A mem runs)
   answer-text-one κs a g r s m n = either 𝓤 (two 𝓤) (two 𝓤) (λ p q. (p .0 .0 ∙ sym (q .0 .0), λ i. (tt, (tt, ((p .0 .1 ∙ sym (q .0 .1)) i, tt)))))

@@ -1,15 +1,11 @@
--- `end_line` does the call that the buffer holds, and each part of the session is what the calls promise.
-use mathlib.Core.Path.{ap, _∙_}
+-- `end_line` does the command that the buffer holds, and each part of the session is what the calls promise.
 use borrow.Author.Needs.{needs}
-use Rattle.lines.specs.declared.Call.{Call}
-use Rattle.answers.specs.declared.Told.{Told}
-use Rattle.answers.specs.Answers.{toldOf, memoryAfter}
 use Rattle.bench.specs.Inner.{sessionOf, lineEnded}
 use Rattle.bench.proofs.end_line.Statement.{statement}
 use Rattle.bench.proofs.end_line.Tie as tie
 
-call-in-requires : tie.Need-call-in-requires
-call-in-requires c κs = search needs
+command-in-requires : tie.Need-command-in-requires
+command-in-requires c κs = search needs
 
 obey-requires : tie.Need-obey-requires
 obey-requires c κs = search needs
@@ -25,13 +21,13 @@ both-requires c κs = search needs
 
 returns : tie.Need-returns
 unfolding sessionOf lineEnded
-returns c = λ i. record { board = (ap (λ (t : Told). t .coprocessor) (c .before .before .before .before .obey .ensures .0) ∙ ap (λ (call : Call). toldOf call (c .before .before .before .before .before .before .before .before .before .args .bench .board) (c .before .before .before .before .before .before .before .before .before .args .memory .now) .coprocessor) (c .before .before .before .before .before .before .before .call-in .ensures)) i; memory = (c .before .before .before .before .obey .ensures .1 ∙ ap (λ (call : Call). memoryAfter call (c .before .before .before .before .before .before .before .before .before .args .bench .board) (c .before .before .before .before .before .before .before .before .before .args .memory .now)) (c .before .before .before .before .before .before .before .call-in .ensures)) i; buffer = c .before .before .before .before .before .before .before .before .before .args .buffer .now; count = 0; line = c .before .before .next-line .ensures i }
+returns c = cc
 
 pub end-line-spec : {M : Type 1} → statement M
 end-line-spec =
     tie.close
     (tie.spec
-    call-in-requires
+    command-in-requires
     obey-requires
     next-line-requires
     print-requires

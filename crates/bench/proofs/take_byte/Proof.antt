@@ -17,7 +17,7 @@ gather-requires c κs = search needs
 
 returns-2 : tie.Need-returns-2
 unfolding sessionOf byteGathered byteTaken
-returns-2 c = rw (ne-eqb _ _ (c .before .before .before .if1 .left)) (λ i. record { board = c .before .before .before .before .args .bench .board; memory = c .before .before .before .before .args .memory .now; buffer = c .gather .ensures .1 i; count = c .gather .ensures .0 i; line = c .before .before .before .before .args .bench .line })
+returns-2 c = rw (ne-eqb _ _ (c .before .before .before .if1 .left)) (cc)
 
 pub take-byte-spec : {M : Type 1} → statement M
 take-byte-spec = tie.close (tie.spec end-line-requires returns gather-requires returns-2)

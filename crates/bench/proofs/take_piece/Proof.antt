@@ -10,7 +10,8 @@ use Rattle.bench.proofs.take_piece.Statement.{statement}
 use Rattle.bench.proofs.take_piece.Tie as tie
 
 abbrev Inv-loop : tie.InvT-loop
-Inv-loop piece buffer₀ memory₀ state₀ i₀ buffer memory state i = (i ≤ length piece) × (bytesTaken (drop i piece) (sessionOf state memory buffer) ≡ bytesTaken piece (sessionOf state₀ memory₀ buffer₀))
+Inv-loop piece buffer₀ memory₀ state₀ i₀ buffer memory state i =
+    (i ≤ length piece) × (bytesTaken (drop i piece) (sessionOf state memory buffer) ≡ bytesTaken piece (sessionOf state₀ memory₀ buffer₀))
 
 abbrev μ-loop : tie.MeasureT-loop
 μ-loop piece buffer₀ memory₀ state₀ i₀ buffer memory state i = length piece - i
@@ -31,7 +32,9 @@ loop-less : tie.Need-loop-less Inv-loop μ-loop
 loop-less c = omega arith
 
 loop-again : tie.Need-loop-again Inv-loop μ-loop
-loop-again c = (omega arith, rw (c .take-byte .ensures) (sym (bytes-on _ _ _ (c .before .before .before .before .loop-test .taken)) ∙ c .before .before .before .before .before .loop .inv .1))
+loop-again c =
+    let l = c .before .before .before .before in
+    (omega arith, rw (c .take-byte .ensures) (sym (bytes-on _ _ _ (l .loop-test .taken)) ∙ l .before .loop .inv .1))
 
 returns : tie.Need-returns Inv-loop μ-loop
 returns c = sym (bytes-end _ _ _ (c .loop-test .left)) ∙ c .before .loop .inv .1

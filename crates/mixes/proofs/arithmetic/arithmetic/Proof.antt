@@ -36,9 +36,7 @@ scatter-requires c κs = search needs
 
 returns-2 : tie.Need-returns-2
 unfolding arithmetic
-returns-2 c =
-    let gathers = c .before .before in
-    rw (c .scatter .ensures, c .before .work2 .ensures, gathers .gather3 .ensures, gathers .before .gather2 .ensures, gathers .before .before .gather .ensures)
+returns-2 c = cc
 
 pub arithmetic-spec : {M : Type 1} → statement M
 arithmetic-spec =

@@ -36,7 +36,7 @@ unfolding byteOf
 returns-4 c = rw (c .match .keys4) (omega arith)
 
 returns-5 : tie.Need-returns-5
-returns-5 c = sym (byte-beyond (c .before .args .x) (c .before .args .k) (search needs) (omega (arith, c .match .rest .1, c .match .rest .0 .1, c .match .rest .0 .0 .1, c .match .rest .0 .0 .0 .1)))
+returns-5 c = let r = c .match .rest in sym (byte-beyond _ _ (search needs) (omega (arith, r .1, r .0 .1, r .0 .0 .1, r .0 .0 .0 .1)))
 
 pub byte-spec : {M : Type 1} → statement M
 byte-spec =

@@ -38,13 +38,18 @@ cast-number : tie.Need-cast-number Inv-loop μ-loop
 cast-number c = omega (arith, c .shared-slice-known .given (c .before .before .before .args .at + (c .before .before .loop .i - 1)))
 
 add-number-2 : tie.Need-add-number-2 Inv-loop μ-loop
-add-number-2 c = omega (arith, pow-within (c .before .before .loop .i) (c .before .before .before .args .count) (c .before .before .before .pre .1), c .shared-slice-known .given (c .before .before .before .args .at + (c .before .before .loop .i - 1)))
+add-number-2 c =
+    let small = pow-within (c .before .before .loop .i) (c .before .before .before .args .count) (c .before .before .before .pre .1) in
+    omega (arith, c .shared-slice-known .given (c .before .before .before .args .at + (c .before .before .loop .i - 1)))
 
 loop-less : tie.Need-loop-less Inv-loop μ-loop
 loop-less c = omega arith
 
 loop-again : tie.Need-loop-again Inv-loop μ-loop
-loop-again c = (omega arith, rw (read-next _ _ _ _ (c .before .loop-test .taken) (c .before .before .loop .inv .0) (c .before .before .before .pre .0), c .before .before .loop .inv .1), rw (pow-next (c .before .before .loop .i) (c .before .before .before .args .count) (c .before .loop-test .taken) (c .before .before .loop .inv .0)) (omega (arith, c .shared-slice-known .given (c .before .before .before .args .at + (c .before .before .loop .i - 1)))))
+loop-again c =
+    let l = c .before .before .loop in let s = c .before .before .before in let some = c .before .loop-test .taken in
+    let byte = c .shared-slice-known .given (s .args .at + (l .i - 1)) in
+    (omega arith, rw (read-next _ _ _ _ some (l .inv .0) (s .pre .0), l .inv .1), rw (pow-next (l .i) (s .args .count) some (l .inv .0)) (omega arith))
 
 cast-result : tie.Need-cast-result Inv-loop μ-loop
 cast-result c = omega (arith, pow-within (c .before .loop .i) (c .before .before .args .count) (c .before .before .pre .1))

@@ -1,4 +1,5 @@
 -- `latch_pair` is two bytes after the write: each is `latch_byte`'s, and `latched-two` puts them together.
+use Prim.Native.Nat.{_<_}
 use Rattle.numbers.proofs.ByteLaws.{latched-two}
 use borrow.Author.Needs.{needs}
 use Rattle.numbers.proofs.bytes.latch_pair.Statement.{statement}
@@ -32,7 +33,7 @@ add-result : tie.Need-add-result
 add-result c = search needs
 
 returns : tie.Need-returns
-returns c = rw (latched-two (c .before .before .args .at) (c .before .before .args .w) (c .before .before .args .stored) (search needs), c .before .latch-byte .ensures, c .latch-byte2 .ensures)
+returns c = let h : c .before .before .args .stored < 65536 = search needs in rw (latched-two, c .before .latch-byte .ensures, c .latch-byte2 .ensures)
 
 pub latch-pair-spec : {M : Type 1} → statement M
 latch-pair-spec =

@@ -30,11 +30,13 @@ rem-result : tie.Need-rem-result
 rem-result c = rw (one-shifted (c .args .length) (omega arith)) (one-le-pow _ 256 (lit< tt))
 
 cast-result-2 : tie.Need-cast-result-2
-cast-result-2 c = rw (one-shifted (c .args .length) (omega arith)) (record { fits = lt-of-lt-of-le (mod-lt _ (one-le-pow _ 256 (lit< tt))) (pow-le-pow-right (lit< {m = 0} {n = 256} tt) {j = 4} (omega arith)) })
+cast-result-2 c =
+    let few = pow-le-pow-right (lit< {m = 0} {n = 256} tt) {i = c .args .length} {j = 4} (omega arith) in
+    rw (one-shifted (c .args .length) (omega arith)) (record { fits = lt-of-lt-of-le (mod-lt _ (one-le-pow _ 256 (lit< tt))) few })
 
 returns : tie.Need-returns
 unfolding partOf
-returns c = rw (one-shifted (c .args .length) (omega arith), two-pow-eight (c .args .skip) (omega arith))
+returns c = rw (one-shifted (c .args .length) (omega arith), two-pow-eight (c .args .skip))
 
 pub part-spec : {M : Type 1} → statement M
 part-spec =

@@ -1,7 +1,6 @@
 -- `destination` is the place on the destination's circle: the difference of two small numbers fits the machine's.
 use Prim.Native.Nat.{ℕ, _+_, _%_}
 use native.Mathlib.Omega.{arith}
-use lib.IntN.{subℕ}
 use mir.Syntax.{w16}
 use mir.ValLaws.{toZ-ofZ, toZ-pos}
 use Rattle.numbers.specs.Circles.{circle, forth, residue}
@@ -24,7 +23,7 @@ sub-result c = rw (toZ-pos w16 (place (c .args .x)) (omega arith)) (sub-fits w16
 
 returns : tie.Need-returns
 unfolding circle forth residue
-returns c = rw (toZ-pos w16 (place (c .args .x)) (omega arith), toZ-ofZ w16 (subℕ (place (c .args .x)) 2048) (sub-fits w16 (place (c .args .x)) 2048 (omega arith)))
+returns c = let p = place (c .args .x) in rw (toZ-pos w16 p (omega arith), toZ-ofZ w16 _ (sub-fits w16 p 2048 (omega arith)))
 
 pub destination-spec : {M : Type 1} → statement M
 destination-spec = tie.close (tie.spec add-result cast-result sub-result returns)

@@ -1,7 +1,6 @@
 -- `term` is the place on the circle of E, K1 and K2: the difference of two small numbers fits the machine's.
 use Prim.Native.Nat.{ℕ, _+_, _%_}
 use native.Mathlib.Omega.{arith}
-use lib.IntN.{subℕ}
 use mir.Syntax.{w32}
 use mir.ValLaws.{toZ-ofZ, toZ-pos}
 use Rattle.numbers.specs.Circles.{circle, forth, residue}
@@ -24,7 +23,7 @@ sub-result c = rw (toZ-pos w32 (place (c .args .x)) (omega arith)) (sub-fits w32
 
 returns : tie.Need-returns
 unfolding circle forth residue
-returns c = rw (toZ-pos w32 (place (c .args .x)) (omega arith), toZ-ofZ w32 (subℕ (place (c .args .x)) 8192) (sub-fits w32 (place (c .args .x)) 8192 (omega arith)))
+returns c = let p = place (c .args .x) in rw (toZ-pos w32 p (omega arith), toZ-ofZ w32 _ (sub-fits w32 p 8192 (omega arith)))
 
 pub term-spec : {M : Type 1} → statement M
 term-spec = tie.close (tie.spec add-result cast-result sub-result returns)

@@ -20,7 +20,10 @@ term-requires : tie.Need-term-requires
 term-requires c κs = search needs
 
 returns : tie.Need-returns
-returns c = rw (toZ-ofZ w32 (c .term .result) (record { sfits = c .term .ok }), c .term .ensures, c .before .word2 .ensures, c .before .before .word .ensures, toZ-ofZ w32 (c .before .before .before .args .e) (c .before .before .before .fits .e), toZ-ofZ w32 (c .before .before .before .args .k) (c .before .before .before .fits .k)) (circle-sum 8192 16384 (lit< tt) 262144 (lit< tt) (c .before .before .before .args .e) (c .before .before .before .args .k))
+returns c =
+    let f = c .before .before .before .fits in
+    rw (toZ-ofZ w32 _ (record { sfits = c .term .ok }), c .term .ensures, c .before .word2 .ensures, c .before .before .word .ensures)
+    (rw (toZ-ofZ w32 _ (f .e), toZ-ofZ w32 _ (f .k)) (circle-sum 8192 16384 (lit< tt) 262144 (lit< tt) _ _))
 
 pub term-sum-spec : {M : Type 1} → statement M
 term-sum-spec = tie.close (tie.spec word-requires word-requires-2 add-term term-requires returns)

@@ -1,0 +1,7 @@
+pub mod ScanLaws
+pub mod DigitLaws
+pub mod WordLaws
+pub mod CommandLaws
+pub mod GatherLaws
+pub mod TextLaws
+pub mod Examples
