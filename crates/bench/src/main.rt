@@ -11,7 +11,6 @@ use console::texts::memory_text;
 use coprocessor::Coprocessor;
 use libc::STDIN_FILENO;
 use libc::STDOUT_FILENO;
-use parts::reduced::both;
 
 // The bench between two bytes: the record, the bytes of the line under way, that line's number, and whether to go on.
 struct Bench {
@@ -48,7 +47,7 @@ fn end_line(bench: Bench, buffer: &[u8; 256], memory: &mut [u8; 64]) -> Bench
         board: next,
         count: 0,
         line: next_line(bench.line),
-        more: both(bench.more, print(answer, bench.line)),
+        more: bench.more & print(answer, bench.line),
     }
 }
 

@@ -78,7 +78,11 @@ unfolding runRefusal
 run-accepted c memory size v = rw (eq-eqb _ _ size, v)
 
 -- so its drawing is safe
-pub run-safe : (c : Coprocessor) (memory : List ℕ) → length memory ≡ c .size → validOf c ≡ true → unfinished (penOf c .drawing) ≡ true
+pub known-safe : (c : Coprocessor) (memory : List ℕ) → length memory ≡ c .size → validOf c ≡ true → unfinished (penOf c .drawing) ≡ true
     → Safe (setupOf c) (length memory) (penOf c)
 unfolding penOf
-run-safe c memory size v going = rw size (valid-safe c v going)
+known-safe c memory size v going = rw size (valid-safe c v going)
+
+pub run-safe : (c : Coprocessor) (memory : List ℕ) → isAccepted (runRefusal c memory) ≡ true → unfinished (penOf c .drawing) ≡ true
+    → Safe (setupOf c) (length memory) (penOf c)
+run-safe c memory e = let allowed = run-allowed c memory e in known-safe c memory (allowed .0) (allowed .1)

@@ -16,6 +16,7 @@ use Rattle.parts.specs.declared.refusals.Refusal.{Refusal}
 use Rattle.parts.specs.Refusals.{isAccepted, refusalNumber}
 use Rattle.parts.proofs.RefusalLaws.{number-accepted}
 use Rattle.image.specs.Fields.{Field, laid}
+use Rattle.image.specs.Layout.{imageLength}
 use Rattle.coprocessor.specs.declared.Coprocessor.{Coprocessor}
 use Rattle.coprocessor.specs.declared.Written.{Written}
 use Rattle.coprocessor.specs.Fresh.{sizeHolds, freshAnswer}

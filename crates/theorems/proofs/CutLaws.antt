@@ -9,6 +9,7 @@ use borrow.Author.Tests.{eq-eqb}
 use Rattle.numbers.specs.declared.bytes.Write.{Write}
 use Rattle.parts.specs.Refusals.{isAccepted}
 use Rattle.runs.specs.Runs.{begun, after}
+use Rattle.image.specs.Layout.{imageLength}
 use Rattle.coprocessor.specs.declared.Coprocessor.{Coprocessor}
 use Rattle.coprocessor.specs.Writes.{writeAnswer}
 use Rattle.coprocessor.specs.Runs.{ranOf, runRefusal, runAnswer, runMemory}

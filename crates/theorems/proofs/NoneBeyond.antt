@@ -7,7 +7,7 @@ use lib.ListN.{length, getD}
 use Rattle.numbers.specs.declared.bytes.Write.{Write}
 use Rattle.parts.specs.Refusals.{isAccepted}
 use Rattle.parts.specs.Drawings.{unfinished}
-use Rattle.moves.specs.declared.Setup.{Setup}
+use Rattle.places.specs.declared.Setup.{Setup}
 use Rattle.moves.specs.declared.Pen.{Pen}
 use Rattle.position.proofs.Safety.{safe-within}
 use Rattle.runs.specs.Runs.{Run, begun, after}

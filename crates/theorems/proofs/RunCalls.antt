@@ -10,6 +10,9 @@ use Rattle.parts.specs.Refusals.{isAccepted}
 use Rattle.moves.specs.declared.Pen.{Pen}
 use Rattle.runs.specs.Runs.{Run, begun, after}
 use Rattle.runs.proofs.RunLaws.{length-after, run-add, left-after, done-after, after-done}
+use Rattle.parts.specs.Moved.{withMoved}
+use Rattle.moves.specs.Decoded.{travelOf}
+use Rattle.places.specs.Decoded.{brushOf}
 use Rattle.coprocessor.specs.declared.Coprocessor.{Coprocessor}
 use Rattle.coprocessor.specs.declared.Drawn.{Drawn}
 use Rattle.coprocessor.specs.Valid.{validOf}
@@ -45,14 +48,14 @@ module _ (c : Coprocessor) (memory : List ℕ) (accepted : isAccepted (runRefusa
   -- ---- the positions that a run does
 
   pub run-done : (n : ℕ) → runAnswer c memory n .done ≡ min n (leftIn c)
-  unfolding ranOf setupOf penOf
+  unfolding ranOf setupOf travelOf brushOf penOf
   run-done n =
       ap (λ (d : Drawn). d .done) (run-accepted n .1)
       ∙ done-after (setupOf c) refl refl (penOf c) memory n (valid-counters c (run-allowed c memory accepted .1))
 
   -- those left fall by those done
   pub run-left : (n : ℕ) → leftIn (runAnswer c memory n .coprocessor) + runAnswer c memory n .done ≡ leftIn c
-  unfolding ranOf setupOf penOf withPen
+  unfolding ranOf setupOf travelOf brushOf penOf withPen withMoved
   run-left n =
       ap (λ (d : Drawn). leftIn (d .coprocessor) + d .done) (run-accepted n .1)
       ∙ left-after (setupOf c) refl refl (penOf c) memory n (valid-counters c (run-allowed c memory accepted .1))

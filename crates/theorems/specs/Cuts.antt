@@ -8,6 +8,7 @@ use lib.ListN.{length}
 use Rattle.numbers.specs.declared.bytes.Write.{Write}
 use Rattle.parts.specs.Refusals.{isAccepted}
 use Rattle.parts.specs.Drawings.{unfinished}
+use Rattle.image.specs.Layout.{imageLength}
 use Rattle.coprocessor.specs.declared.Coprocessor.{Coprocessor}
 use Rattle.coprocessor.specs.Writes.{writeAnswer}
 use Rattle.coprocessor.specs.Runs.{runAnswer, runMemory}

@@ -4,7 +4,7 @@ use mathlib.Core.Bool.{true}
 use Rattle.numbers.proofs.Choices.{choose-true}
 use Rattle.parts.specs.Refusals.{isAccepted}
 use Rattle.coprocessor.specs.Runs.{withPen, runRefusal, ranOf, runAnswer, runMemory}
-use Rattle.coprocessor.proofs.SafeLaws.{run-accepted, run-safe}
+use Rattle.coprocessor.proofs.SafeLaws.{run-accepted, known-safe}
 use borrow.Author.Needs.{needs}
 use Rattle.coprocessor.proofs.Coprocessor.ran.Statement.{statement}
 use Rattle.coprocessor.proofs.Coprocessor.ran.Tie as tie
@@ -26,7 +26,7 @@ pen-requires c κs = search needs
 run-requires : tie.Need-run-requires
 run-requires c κs =
     let start = c .before .before .before .before in
-    rw (c .before .before .setup .ensures, c .before .pen .ensures) (run-safe (start .args .self) (start .args .memory .now) (start .pre .0) (start .pre .1))
+    rw (c .before .before .setup .ensures, c .before .pen .ensures) (known-safe (start .args .self) (start .args .memory .now) (start .pre .0) (start .pre .1))
 
 with-pen-requires : tie.Need-with-pen-requires
 with-pen-requires c κs = search needs
