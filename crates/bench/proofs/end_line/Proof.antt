@@ -16,9 +16,6 @@ next-line-requires c κs = search needs
 print-requires : tie.Need-print-requires
 print-requires c κs = search needs
 
-both-requires : tie.Need-both-requires
-both-requires c κs = search needs
-
 returns : tie.Need-returns
 unfolding sessionOf lineEnded
 returns c = cc
@@ -31,5 +28,4 @@ end-line-spec =
     obey-requires
     next-line-requires
     print-requires
-    both-requires
     returns)
