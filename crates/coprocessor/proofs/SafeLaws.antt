@@ -1,4 +1,4 @@
--- A valid record with a drawing in hand is safe: the start rules hold of it, so every used map ends within the memory, and its used pointers lie in their maps.
+-- A valid record with a drawing in hand is safe: the start rules hold of it, so used maps end within the memory and used pointers lie in them.
 use mathlib.Core.Path.{_≡_, refl}
 use mathlib.Core.Bool.{true, not, _&&_}
 use mathlib.Core.List.{List}
@@ -7,6 +7,8 @@ use lib.ListN.{length}
 use lib.Dec.{eqb}
 use borrow.Author.Tests.{eqb-true, eq-eqb, not-false}
 use Rattle.numbers.proofs.Choices.{asked, and-left, and-right}
+use Rattle.pixels.proofs.Maps.{bits-le}
+use Rattle.mixes.proofs.Depths.{depth-cut}
 use Rattle.parts.specs.Drawings.{unfinished}
 use Rattle.parts.specs.Refusals.{isAccepted}
 use Rattle.parts.proofs.RefusalLaws.{passed}
@@ -14,7 +16,8 @@ use Rattle.rules.specs.Operations.{isFill, sourceIsColour, usesSource, usesPatt
 use Rattle.rules.specs.Rules.{fillHolds, fieldsHold, usedMaps, endsHold}
 use Rattle.rules.specs.Going.{countersHold, pointersHold}
 use Rattle.rules.proofs.RefusalLaws.{accepted-holds}
-use Rattle.moves.specs.Decoded.{flowOf}
+use Rattle.moves.specs.Decoded.{travelOf}
+use Rattle.places.specs.Decoded.{flowOf, brushOf}
 use Rattle.position.specs.Within.{readsSource}
 use Rattle.position.specs.Inner.{Safe}
 use Rattle.coprocessor.specs.declared.Coprocessor.{Coprocessor}
@@ -32,10 +35,15 @@ pub valid-going : (c : Coprocessor) → validOf c ≡ true → unfinished (c .dr
 unfolding validOf goesOn
 valid-going c v going =
     let both = asked (unfinished (c .drawing)) _ (and-right (sizeHolds (c .size) && reducedOf c) (goesOn c) v) going in
-    record { counters = search (both, and-left, and-right); starts = search (both, and-left, and-right); pointers = search (both, and-left, and-right) }
+    record {
+      counters = search (both, and-left, and-right);
+      starts = search (both, and-left, and-right);
+      pointers = search (both, and-left, and-right);
+    }
 
 pub valid-safe : (c : Coprocessor) → validOf c ≡ true → unfinished (c .drawing) ≡ true → Safe (setupOf c) (c .size) (penOf c)
-unfolding startRefusalOf fillHolds fieldsHold endsHold usedMaps usesMask usesSource sourceIsColour pointersHold setupOf penOf flowOf readsSource
+unfolding startRefusalOf fillHolds fieldsHold endsHold usedMaps usesMask usesSource sourceIsColour pointersHold setupOf penOf travelOf brushOf flowOf
+    readsSource
 valid-safe c v going =
     let g = valid-going c v going in
     let ends = accepted-holds _ _ _ _ _ (g .starts) .ends in
@@ -46,7 +54,11 @@ valid-safe c v going =
       source = λ used. asked (usesSource (c .operations)) _ (search (ends, and-left, and-right)) used;
       pattern = λ used. asked (usesPattern (c .operations)) _ (search (ends, and-left, and-right)) used;
       used = λ read. read;
-      crossing = λ fills. and-left (usesPattern (c .operations)) _ (asked (isFill (c .operations)) (fillHolds (c .operations)) (search (fields, and-right)) fills);
+      crossing =
+          λ fills.
+          and-left (usesPattern (c .operations)) _
+          (asked (isFill (c .operations)) (fillHolds (c .operations)) (search (fields, and-right)) fills);
+      depth = depth-cut _ _ (bits-le _);
       pointers = g .pointers;
     }
 

@@ -8,42 +8,31 @@ use Rattle.numbers.specs.Choose.{choose}
 use Rattle.parts.specs.declared.refusals.Refusal.{Refusal}
 use Rattle.parts.specs.declared.refusals.Refusal.the-variants.{Accepted, Size, Image}
 use Rattle.parts.specs.Refusals.{isAccepted}
-use Rattle.rules.specs.Operations.{sourceField, destinationField, patternField}
-use Rattle.rules.specs.Maps.{mapAt}
-use Rattle.moves.specs.declared.Setup.{Setup}
 use Rattle.moves.specs.declared.Pen.{Pen}
-use Rattle.moves.specs.Decoded.{courseOf, flowOf, edgeOf}
+use Rattle.moves.specs.Decoded.{travelOf}
+use Rattle.places.specs.declared.Setup.{Setup}
+use Rattle.places.specs.Decoded.{brushOf}
 use Rattle.runs.specs.Runs.{Run, begun, after}
 use Rattle.coprocessor.specs.declared.Coprocessor.{Coprocessor}
 use Rattle.coprocessor.specs.declared.Drawn.{Drawn}
 use Rattle.coprocessor.specs.Valid.{validOf}
 
--- 01, Registers, 7C: what the drawing does not change; the fields choose the maps
+-- docs/DECISIONS.md, 25: what the drawing does not change, decoded once
 unfoldable pub setupOf : Coprocessor → Setup
 setupOf c =
     record {
-      course = courseOf (c .operations);
-      flow = flowOf (c .operations);
-      destination = mapAt (c .maps) (destinationField (c .operations));
-      source = mapAt (c .maps) (sourceField (c .operations));
-      pattern = mapAt (c .maps) (patternField (c .operations));
-      mask = mapAt (c .maps) 0;
-      foreground = c .foreground;
-      background = c .background;
-      compare = c .compare;
-      planes = c .planes;
-      origin = c .origin;
-      dimensions = c .dimensions;
-      steps = c .steps;
-      k1 = c .terms .k1;
-      k2 = c .terms .k2;
-      edge = edgeOf (c .operations);
+      travel = travelOf (c .operations) (c .maps) (c .dimensions) (c .steps) (c .terms);
+      brush = brushOf (c .operations) (c .maps) (c .foreground) (c .background) (c .compare) (c .planes) (c .origin);
     }
 
 -- docs/DECISIONS.md, 25: what it changes
 unfoldable pub penOf : Coprocessor → Pen
 penOf c =
-    record { source = c .source; pattern = c .pattern; destination = c .destination; e = c .terms .e; drawing = c .drawing }
+    record {
+      pointers = record { source = c .source; pattern = c .pattern; destination = c .destination };
+      e = c .terms .e;
+      drawing = c .drawing;
+    }
 
 -- docs/DECISIONS.md, 25: the record with what the drawing changed
 unfoldable pub withPen : Coprocessor → Pen → Coprocessor
@@ -61,9 +50,9 @@ withPen c pen =
       carries = c .carries;
       dimensions = c .dimensions;
       origin = c .origin;
-      source = pen .source;
-      pattern = pen .pattern;
-      destination = pen .destination;
+      source = pen .pointers .source;
+      pattern = pen .pointers .pattern;
+      destination = pen .pointers .destination;
       operations = c .operations;
       drawing = pen .drawing;
     }

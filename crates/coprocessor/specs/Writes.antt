@@ -53,9 +53,11 @@ unfoldable pub started : ℕ → Coprocessor → Coprocessor
 started length c =
     withPen c
     (record {
-      source = sourceStarted (c .operations) (c .maps) (c .source);
-      pattern = patternStarted (c .operations) (c .maps) (c .pattern);
-      destination = c .destination;
+      pointers = record {
+        source = sourceStarted (c .operations) (c .maps) (c .source);
+        pattern = patternStarted (c .operations) (c .maps) (c .pattern);
+        destination = c .destination;
+      };
       e = c .terms .e;
       drawing = drawingStarted (c .operations) (c .steps) length;
     })

@@ -3,17 +3,13 @@ ghost use Rattle.coprocessor.specs.Runs.{setupOf, penOf, withPen, runRef
 use crate::Coprocessor;
 use crate::Drawn;
 use moves::Pen;
-use moves::Setup;
-use moves::decoded::course_of;
-use moves::decoded::edge_of;
-use moves::decoded::flow_of;
+use moves::decoded::travel_of;
 use parts::refusals::Refusal;
 use parts::refusals::accepts;
+use parts::shapes::Pointers;
 use parts::shapes::Terms;
-use rules::maps::map_at;
-use rules::operations::destination_field;
-use rules::operations::pattern_field;
-use rules::operations::source_field;
+use places::Setup;
+use places::decoded::brush_of;
 use runs::run;
 
 impl Coprocessor {
@@ -23,36 +19,17 @@ impl Coprocessor {
     {
         let operations = self.operations;
         let maps = self.maps;
-        let course = course_of(operations);
-        let flow = flow_of(operations);
-        let destination = map_at(maps, destination_field(operations));
-        let source = map_at(maps, source_field(operations));
-        let pattern = map_at(maps, pattern_field(operations));
-        let mask = maps[0];
-        let foreground = self.foreground;
-        let background = self.background;
-        let compare = self.compare;
-        let origin = self.origin;
-        let dimensions = self.dimensions;
-        let terms = self.terms;
-        Setup {
-            course,
-            flow,
-            destination,
-            source,
-            pattern,
-            mask,
-            foreground,
-            background,
-            compare,
-            planes: self.planes,
-            origin,
-            dimensions,
-            steps: self.steps,
-            k1: terms.k1,
-            k2: terms.k2,
-            edge: edge_of(operations),
-        }
+        let travel = travel_of(operations, maps, self.dimensions, self.steps, self.terms);
+        let brush = brush_of(
+            operations,
+            maps,
+            self.foreground,
+            self.background,
+            self.compare,
+            self.planes,
+            self.origin,
+        );
+        Setup { travel, brush }
     }
 
     // What a drawing changes beside memory.
@@ -62,12 +39,15 @@ impl Coprocessor {
         let source = self.source;
         let pattern = self.pattern;
         let destination = self.destination;
-        let terms = self.terms;
-        let drawing = self.drawing;
-        Pen {
+        let pointers = Pointers {
             source,
             pattern,
             destination,
+        };
+        let terms = self.terms;
+        let drawing = self.drawing;
+        Pen {
+            pointers,
             e: terms.e,
             drawing,
         }
@@ -89,9 +69,10 @@ impl Coprocessor {
         let compare = self.compare;
         let dimensions = self.dimensions;
         let origin = self.origin;
-        let source = pen.source;
-        let pattern = pen.pattern;
-        let destination = pen.destination;
+        let pointers = pen.pointers;
+        let source = pointers.source;
+        let pattern = pointers.pattern;
+        let destination = pointers.destination;
         let drawing = pen.drawing;
         Coprocessor {
             size: self.size,
@@ -130,7 +111,8 @@ impl Coprocessor {
     // Does the next positions of the drawing in hand, at most as many as the allowance; a refused run does none and changes
     // nothing.
     pub fn run(self, memory: &mut [u8], allowance: u32) -> Drawn
-        ensures { λ r. ⌜ (r ≡ runAnswer self (now (memory .entry)) allowance) × (now (memory .exit) ≡ runMemory self (now (memory .entry)) allowance) ⌝ }
+        ensures { λ r. ⌜ (r ≡ runAnswer self (now (memory .entry)) allowance)
+            × (now (memory .exit) ≡ runMemory self (now (memory .entry)) allowance) ⌝ }
     {
         let refusal = self.run_refusal(memory);
         if !accepts(refusal) {

@@ -6,6 +6,7 @@ use moves::Pen;
 use numbers::bytes::Write;
 use parts::latches::touches;
 use parts::refusals::Refusal;
+use parts::shapes::Pointers;
 use rules::operations::is_block;
 use rules::operations::is_codes;
 use rules::operations::is_line;
@@ -52,10 +53,13 @@ impl Coprocessor {
         let destination = self.destination;
         let terms = self.terms;
         let operations = self.operations;
-        let pen = Pen {
+        let pointers = Pointers {
             source: start_source(operations, maps, source),
             pattern: start_pattern(operations, maps, pattern),
             destination,
+        };
+        let pen = Pen {
+            pointers,
             e: terms.e,
             drawing: start_drawing(operations, self.steps, length),
         };

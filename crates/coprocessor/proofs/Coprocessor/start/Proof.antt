@@ -3,9 +3,9 @@ use mathlib.Core.Path.{_∙_, ap}
 use mir.Syntax.{w32}
 use mir.Val.{SFits}
 use mir.ValLaws.{toZ-ofZ}
-use borrow.Author.Needs.{needs}
 use Rattle.coprocessor.specs.Writes.{started}
 use Rattle.coprocessor.specs.Runs.{withPen}
+use borrow.Author.Needs.{needs}
 use Rattle.coprocessor.proofs.Coprocessor.start.Statement.{statement}
 use Rattle.coprocessor.proofs.Coprocessor.start.Tie as tie
 
@@ -23,11 +23,23 @@ with-pen-requires c κs = search needs
 
 returns : tie.Need-returns
 unfolding started
-returns c =
-    let e : SFits w32 (c .before .before .before .before .before .before .before .before .before .before .args .self .terms .e) = search needs in
+returns c = let source = c .before .before .before .before in
+    let self = source .before .before .before .before .before .before .args .self in
+    let e : SFits w32 (self .terms .e) = search (needs, c .before .struct-told .given) in
     c .with-pen .ensures
-    ∙ ap (withPen (c .before .before .before .before .before .before .before .before .before .before .args .self))
-    (λ i. record { source = c .before .before .before .before .start-source .ensures i; pattern = c .before .before .before .start-pattern .ensures i; destination = c .before .before .before .before .before .before .before .before .before .before .args .self .destination; e = toZ-ofZ w32 (c .before .before .before .before .before .before .before .before .before .before .args .self .terms .e) e i; drawing = c .before .before .start-drawing .ensures i })
+    ∙ ap (withPen self)
+    (λ i. record {
+      pointers = record { source = source .start-source .ensures i; pattern = c .before .before .before .start-pattern .ensures i; destination = self .destination };
+      e = toZ-ofZ w32 (self .terms .e) e i;
+      drawing = c .before .before .start-drawing .ensures i;
+    })
 
 pub start-spec : {M : Type 1} → statement M
-start-spec = tie.close (tie.spec start-source-requires start-pattern-requires start-drawing-requires with-pen-requires returns)
+start-spec =
+    tie.close
+    (tie.spec
+    start-source-requires
+    start-pattern-requires
+    start-drawing-requires
+    with-pen-requires
+    returns)
