@@ -9,7 +9,8 @@ use Rattle.parts.specs.Drawings.{unfinished}
 use Rattle.parts.specs.Reduced.{spotReduced}
 use Rattle.parts.proofs.ReducedLaws.{destination-circle-fixed}
 use Rattle.rules.specs.Operations.{functionOf, drawingMode, isFill, isBlock, modeOf}
-use Rattle.moves.specs.Decoded.{courseOf, flowOf}
+use Rattle.moves.specs.Decoded.{courseOf, travelOf}
+use Rattle.places.specs.Decoded.{flowOf, brushOf}
 use Rattle.moves.proofs.CircledLaws.{OnCircle}
 use Rattle.places.specs.Places.{isNulled}
 use Rattle.coprocessor.specs.declared.Coprocessor.{Coprocessor}
@@ -40,9 +41,9 @@ destination-on c v = destination-circle-fixed (c .destination .y) (search (v, an
 pub drawn-by-rows : (c : Coprocessor) → validOf c ≡ true → (eqb (functionOf (c .operations)) 4 || eqb (functionOf (c .operations)) 5) ≡ true
     → drawingMode (c .operations) ≡ 3
     → atStart (c .drawing) ≡ true
-    → (n : ℕ) → unfinished (penAfter (setupOf c) n (penOf c) .drawing) ≡ true
-    → isNulled (setupOf c) (penAfter (setupOf c) n (penOf c)) ≡ not (crosses (setupOf c) (penOf c) n)
-unfolding setupOf penOf flowOf courseOf modeOf isBlock isFill
+    → (n : ℕ) → unfinished (penAfter (setupOf c .travel) n (penOf c) .drawing) ≡ true
+    → isNulled (setupOf c) (penAfter (setupOf c .travel) n (penOf c)) ≡ not (crosses (setupOf c .travel) (penOf c) n)
+unfolding setupOf penOf travelOf brushOf flowOf courseOf modeOf isBlock isFill
 drawn-by-rows c valid function mode start =
     let w = writes (functionOf (c .operations)) function in
     let eleven : modeOf (c .operations) ≡ 3 = choose-false _ _ (w .block) ∙ mode in

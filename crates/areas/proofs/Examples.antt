@@ -11,7 +11,7 @@ use Rattle.numbers.specs.Fields.{field, withField}
 use Rattle.pixels.specs.declared.Map.{Map}
 use Rattle.pixels.specs.Maps.{bitsOf, startOf, placeOf, shiftOf, neededOf}
 use Rattle.pixels.specs.Pixels.{byteAt, pixelAt, withPixel}
-use Rattle.mixes.specs.Mixes.{tableBit, logical, gathered, merged, mixed}
+use Rattle.mixes.specs.Mixes.{depthOf, tableBit, logical, gathered, merged, mixed}
 use Rattle.mixes.specs.Conditions.{holdsOf, conditionHolds}
 use Rattle.parts.specs.declared.drawing.Drawing.{Drawing}
 use Rattle.parts.specs.declared.drawing.Drawing.the-variants.{Line, Codes, Block}
@@ -23,7 +23,8 @@ use Rattle.rules.specs.Rules.{isSource, isPattern, fillHolds, fieldsHold, mixes
 use Rattle.rules.specs.Starts.{codeAt}
 use Rattle.rules.specs.Going.{noneStopped, countersHold, pointersHold}
 use Rattle.rules.specs.Totals.{codesFrom, totalOf}
-use Rattle.moves.specs.Decoded.{signOf, courseOf, flowOf, edgeOf}
+use Rattle.moves.specs.Decoded.{signOf, courseOf, travelOf}
+use Rattle.places.specs.Decoded.{edgeOf, flowOf, brushOf}
 use Rattle.moves.specs.Turns.{opposite, turnedBy, circledBy, pointStepped, spotStepped}
 use Rattle.moves.specs.Steps.{lineStep, codeStep, movesRow, goesUp}
 use Rattle.moves.specs.Moves.{sourceBy, destinationBy, penStepped, penWith, penGone, lineError, rises, lineMoved, codePassed, codesMoved}
@@ -162,7 +163,7 @@ unfolding byteOf forth back residue circle field withField bitsOf startOf placeO
     mixed holdsOf conditionHolds insideOf withInside mapReduced termReduced termsReduced compareReduced pointReduced destinationReduced spotReduced isMap
     isLine isCodes isFill isBlock modeOf sourceIsColour usesSource usesPattern usesMask mapAt formatHolds isOneBit endHolds isInside isSource isPattern
     fillHolds fieldsHold mixesHold usedMaps formatsHold endsHold startRefusal codeAt noneStopped countersHold pointersHold codesFrom totalOf signOf courseOf
-    flowOf edgeOf opposite turnedBy circledBy pointStepped spotStepped lineStep codeStep movesRow goesUp sourceBy destinationBy penStepped penWith penGone lineError
+    travelOf flowOf edgeOf depthOf brushOf opposite turnedBy circledBy pointStepped spotStepped lineStep codeStep movesRow goesUp sourceBy destinationBy penStepped penWith penGone lineError
     rises lineMoved codePassed codesMoved columnPassed rowPoint rowSpot rowPassed blockMoved movedBy moved isWithin columnOf placeX onMap inMask isMove
     isFirst isLast ofRun onBoundary nulledBy isNulled destinationPixel onZero isCompared fateOf sourcePixel isOne insideAt crossed isForeground inkOf picked mixedPixel
     drawnBy drawn begun positioned stepped after sizeHolds startRefusalOf mapsReduced pointersReduced reducedOf goesOn validOf setupOf penOf ranOf runRefusal

@@ -18,7 +18,7 @@ use Rattle.parts.specs.declared.drawing.Drawing.the-variants.{Block}
 use Rattle.rules.specs.Maps.{isInside}
 use Rattle.moves.specs.declared.Turn.{Turn}
 use Rattle.moves.specs.declared.Turn.the-variants.{Forth}
-use Rattle.moves.specs.declared.Setup.{Setup}
+use Rattle.places.specs.declared.Setup.{Setup}
 use Rattle.moves.specs.Turns.{turnedBy}
 use Rattle.moves.proofs.TurnLaws.{forth-lt}
 use Rattle.position.specs.Drawn.{isForeground}
@@ -39,45 +39,45 @@ ones-same m m' map p same (suc n) =
 -- a run at the start of a row, from the corner down
 record AtRow (row : ℕ) (u : Run) : Type 0 where
   drawing : u .pen .drawing ≡ Block false 0 row
-  pattern : u .pen .pattern ≡ record { x = 0; y = row }
+  pattern : u .pen .pointers .pattern ≡ record { x = 0; y = row }
 
-module _ (s : Setup) (f : Fills s) (down : s .course .y ≡ Forth) (t : Run) (start : t .pen .drawing ≡ Block false 0 0)
-    (corner : t .pen .pattern ≡ record { x = 0; y = 0 }) where
-  row-inside : (row : ℕ) (p : Point) → row ≤ s .pattern .height → p ≡ record { x = 0; y = row } → isInside (s .pattern) p ≡ true
+module _ (s : Setup) (f : Fills s) (down : s .travel .course .y ≡ Forth) (t : Run) (start : t .pen .drawing ≡ Block false 0 0)
+    (corner : t .pen .pointers .pattern ≡ record { x = 0; y = 0 }) where
+  row-inside : (row : ℕ) (p : Point) → row ≤ s .travel .pattern .map .height → p ≡ record { x = 0; y = row } → isInside (s .travel .pattern .map) p ≡ true
   unfolding isInside
-  row-inside row p h e = rw e (and-both _ _ (le-leb 0 (s .pattern .width) zero-le) (le-leb row (s .pattern .height) h))
+  row-inside row p h e = rw e (and-both _ _ (le-leb 0 (s .travel .pattern .map .width) zero-le) (le-leb row (s .travel .pattern .map .height) h))
 
-  next-row : (row : ℕ) (u : Run) → row < s .dimensions .y → row < s .pattern .height → AtRow row u → AtRow (suc row) (after s (suc (s .dimensions .x)) u)
+  next-row : (row : ℕ) (u : Run) → row < s .travel .dimensions .y → row < s .travel .pattern .map .height → AtRow row u → AtRow (suc row) (after s (suc (s .travel .dimensions .x)) u)
   unfolding turnedBy
   next-row row u another within at =
-      let passed = row-after s f u row (at .drawing) (row-inside row (u .pen .pattern) (omega arith) (at .pattern)) another in
-      let step : turnedBy (s .course .y) 1 (s .pattern .height) (u .pen .pattern .y) ≡ suc row =
-      ap₂ (λ (turn : Turn) (y : ℕ). turnedBy turn 1 (s .pattern .height) y) down (ap (λ (p : Point). p .y) (at .pattern))
-      ∙ forth-inside (s .pattern .height + 1) 1 row (omega arith)
+      let passed = row-after s f u row (at .drawing) (row-inside row (u .pen .pointers .pattern) (omega arith) (at .pattern)) another in
+      let step : turnedBy (s .travel .course .y) 1 (s .travel .pattern .map .height) (u .pen .pointers .pattern .y) ≡ suc row =
+      ap₂ (λ (turn : Turn) (y : ℕ). turnedBy turn 1 (s .travel .pattern .map .height) y) down (ap (λ (p : Point). p .y) (at .pattern))
+      ∙ forth-inside (s .travel .pattern .map .height + 1) 1 row (omega arith)
       ∙ add-one row in
       record {
         drawing = passed .0 ∙ ap (λ (k : ℕ). Block false 0 k) (add-one row);
         pattern = passed .1 ∙ (λ i. record { x = at .pattern i .x; y = step i });
       }
 
-  at-row : (row : ℕ) → row ≤ s .dimensions .y → row ≤ s .pattern .height → AtRow row (after s (row * (s .dimensions .x + 1)) t)
+  at-row : (row : ℕ) → row ≤ s .travel .dimensions .y → row ≤ s .travel .pattern .map .height → AtRow row (after s (row * (s .travel .dimensions .x + 1)) t)
   unfolding after
-  at-row zero h v = rw (zero-mul (s .dimensions .x + 1)) (record { drawing = start; pattern = corner })
+  at-row zero h v = rw (zero-mul (s .travel .dimensions .x + 1)) (record { drawing = start; pattern = corner })
   at-row (suc row) h v =
-      let wide : suc row * (s .dimensions .x + 1) ≡ row * (s .dimensions .x + 1) + suc (s .dimensions .x) = omega arith in
-      rw (wide, after-add s (row * (s .dimensions .x + 1)) (suc (s .dimensions .x)) t)
-      (next-row row (after s (row * (s .dimensions .x + 1)) t) (omega arith) (omega arith) (at-row row (omega arith) (omega arith)))
+      let wide : suc row * (s .travel .dimensions .x + 1) ≡ row * (s .travel .dimensions .x + 1) + suc (s .travel .dimensions .x) = omega arith in
+      rw (wide, after-add s (row * (s .travel .dimensions .x + 1)) (suc (s .travel .dimensions .x)) t)
+      (next-row row (after s (row * (s .travel .dimensions .x + 1)) t) (omega arith) (omega arith) (at-row row (omega arith) (omega arith)))
 
   -- 003, Area Fill: the foreground at a column and row, by the 1s of that row of the pattern
-  pub foreground-there : (x y : ℕ) → x ≤ s .dimensions .x → y ≤ s .dimensions .y → y ≤ s .pattern .height
-      → isForeground s (after s (y * (s .dimensions .x + 1) + x) t .memory) (after s (y * (s .dimensions .x + 1) + x) t .pen)
-      ≡ isOdd (onesFrom (t .memory) (s .pattern) (record { x = 0; y = y }) (suc x))
+  pub foreground-there : (x y : ℕ) → x ≤ s .travel .dimensions .x → y ≤ s .travel .dimensions .y → y ≤ s .travel .pattern .map .height
+      → isForeground s (after s (y * (s .travel .dimensions .x + 1) + x) t .memory) (after s (y * (s .travel .dimensions .x + 1) + x) t .pen)
+      ≡ isOdd (onesFrom (t .memory) (s .travel .pattern .map) (record { x = 0; y = y }) (suc x))
   foreground-there x y across h v =
-      let before : ℕ = y * (s .dimensions .x + 1) in
+      let before : ℕ = y * (s .travel .dimensions .x + 1) in
       let u : Run = after s before t in
       let at = at-row y h v in
       rw (after-add s before x t)
-      (foreground-at s f u y (at .drawing) (row-inside y (u .pen .pattern) v (at .pattern)) x across
-      ∙ ap (λ (p : Point). isOdd (onesFrom (u .memory) (s .pattern) p (suc x))) (at .pattern)
+      (foreground-at s f u y (at .drawing) (row-inside y (u .pen .pointers .pattern) v (at .pattern)) x across
+      ∙ ap (λ (p : Point). isOdd (onesFrom (u .memory) (s .travel .pattern .map) p (suc x))) (at .pattern)
       ∙ ap isOdd
-      (ones-same (u .memory) (t .memory) (s .pattern) (record { x = 0; y = y }) (λ column inside. pattern-after s f before t column y inside v) (suc x)))
+      (ones-same (u .memory) (t .memory) (s .travel .pattern .map) (record { x = 0; y = y }) (λ column inside. pattern-after s f before t column y inside v) (suc x)))

@@ -19,7 +19,7 @@ use Rattle.parts.specs.Drawings.{unfinished, insideOf, withInside}
 use Rattle.rules.specs.Maps.{isInside}
 use Rattle.rules.proofs.PointerLaws.{inside-x, inside-y}
 use Rattle.moves.specs.declared.Turn.the-variants.{Forth, Back}
-use Rattle.moves.specs.declared.Setup.{Setup}
+use Rattle.places.specs.declared.Setup.{Setup}
 use Rattle.moves.specs.declared.Pen.{Pen}
 use Rattle.moves.specs.Turns.{opposite, turnedBy, pointStepped}
 use Rattle.moves.specs.Moves.{penStepped, penWith, columnPassed, rowPoint, rowPassed, blockMoved, movedBy, moved}
@@ -33,10 +33,10 @@ use Rattle.areas.proofs.Parities.{odd-turned}
 
 -- a fill whose pattern map shares no byte with its destination map
 pub record Fills (s : Setup) : Type 0 where
-  pub fills : s .flow .fills ≡ true
-  pub pattern : s .flow .pattern ≡ true
-  pub right : s .course .x ≡ Forth
-  pub apart : Apart (s .pattern) (s .destination)
+  pub fills : s .brush .flow .fills ≡ true
+  pub pattern : s .travel .pattern .used ≡ true
+  pub right : s .travel .course .x ≡ Forth
+  pub apart : Apart (s .travel .pattern .map) (s .brush .destination)
 
 -- ---- one position
 
@@ -44,7 +44,7 @@ module _ (s : Setup) (f : Fills s) where
   -- the bit is turned at a 1
   inside-here : (t : Run) (column row : ℕ) (before : Bool) → t .pen .drawing ≡ Block before column row
       → insideAt s (t .memory) (t .pen)
-      ≡ choose (not (eqb (pixelAt (t .memory) (s .pattern) (t .pen .pattern .x) (t .pen .pattern .y)) 0)) (not before) before
+      ≡ choose (not (eqb (pixelAt (t .memory) (s .travel .pattern .map) (t .pen .pointers .pattern .x) (t .pen .pointers .pattern .y)) 0)) (not before) before
   unfolding insideAt isOne insideOf
   inside-here t column row before e = rw (e, f .fills)
 
@@ -59,78 +59,78 @@ module _ (s : Setup) (f : Fills s) where
   foreground-here t = choose-true _ _ (f .pattern) ∙ choose-true _ _ (f .fills)
 
   -- the pixels of the pattern stay
-  pub pattern-after : (n : ℕ) (t : Run) (x y : ℕ) → x ≤ s .pattern .width → y ≤ s .pattern .height
-      → pixelAt (after s n t .memory) (s .pattern) x y ≡ pixelAt (t .memory) (s .pattern) x y
+  pub pattern-after : (n : ℕ) (t : Run) (x y : ℕ) → x ≤ s .travel .pattern .map .width → y ≤ s .travel .pattern .map .height
+      → pixelAt (after s n t .memory) (s .travel .pattern .map) x y ≡ pixelAt (t .memory) (s .travel .pattern .map) x y
   unfolding byteAt pixelAt Apart
   pattern-after n t x y h v =
-      ap (field (shiftOf (s .pattern) x y) (bitsOf (s .pattern .format)))
-      (bytes-after s (placeOf (s .pattern) x y) (λ x' y' h' v'. f .apart x y x' y' h v h' v') n t)
+      ap (field (shiftOf (s .travel .pattern .map) x y) (bitsOf (s .travel .pattern .map .format)))
+      (bytes-after s (placeOf (s .travel .pattern .map) x y) (λ x' y' h' v'. f .apart x y x' y' h v h' v') n t)
 
   -- ---- the move to the next column, and past the row's end
 
   module _ (pen : Pen) (column row : ℕ) (inside : Bool) (e : pen .drawing ≡ Block inside column row) where
-    to-column : column < s .dimensions .x → moved s pen ≡ columnPassed s (Block inside (column + 1) row) pen
+    to-column : column < s .travel .dimensions .x → moved (s .travel) pen ≡ columnPassed (s .travel) (Block inside (column + 1) row) pen
     unfolding moved movedBy blockMoved
-    to-column less = ap (λ (d : Drawing). movedBy s d pen) e ∙ choose-true _ _ (lt-ltb column (s .dimensions .x) less)
+    to-column less = ap (λ (d : Drawing). movedBy (s .travel) d pen) e ∙ choose-true _ _ (lt-ltb column (s .travel .dimensions .x) less)
 
-    to-row : s .dimensions .x ≤ column → row < s .dimensions .y → moved s pen ≡ rowPassed s (Block false 0 (row + 1)) pen
+    to-row : s .travel .dimensions .x ≤ column → row < s .travel .dimensions .y → moved (s .travel) pen ≡ rowPassed (s .travel) (Block false 0 (row + 1)) pen
     unfolding moved movedBy blockMoved
     to-row last another =
-        ap (λ (d : Drawing). movedBy s d pen) e
-        ∙ choose-false _ _ (le-ltb column (s .dimensions .x) last)
-        ∙ ap (λ (d : Drawing). rowPassed s d pen) (choose-true _ _ (lt-ltb row (s .dimensions .y) another))
+        ap (λ (d : Drawing). movedBy (s .travel) d pen) e
+        ∙ choose-false _ _ (le-ltb column (s .travel .dimensions .x) last)
+        ∙ ap (λ (d : Drawing). rowPassed (s .travel) d pen) (choose-true _ _ (lt-ltb row (s .travel .dimensions .y) another))
 
   column-pattern : (d : Drawing) (pen : Pen)
-      → columnPassed s d pen .pattern ≡ record { x = forth (s .pattern .width + 1) 1 (pen .pattern .x); y = pen .pattern .y }
+      → columnPassed (s .travel) d pen .pointers .pattern ≡ record { x = forth (s .travel .pattern .map .width + 1) 1 (pen .pointers .pattern .x); y = pen .pointers .pattern .y }
   unfolding columnPassed penStepped pointStepped turnedBy
   column-pattern d pen =
-      choose-true _ _ (f .pattern) ∙ (λ i. record { x = turnedBy (f .right i) 1 (s .pattern .width) (pen .pattern .x); y = pen .pattern .y })
+      choose-true _ _ (f .pattern) ∙ (λ i. record { x = turnedBy (f .right i) 1 (s .travel .pattern .map .width) (pen .pointers .pattern .x); y = pen .pointers .pattern .y })
 
   row-pattern : (d : Drawing) (pen : Pen)
-      → rowPassed s d pen .pattern
+      → rowPassed (s .travel) d pen .pointers .pattern
       ≡ record {
-        x = turnedBy Back (s .dimensions .x) (s .pattern .width) (pen .pattern .x);
-        y = turnedBy (s .course .y) 1 (s .pattern .height) (pen .pattern .y);
+        x = turnedBy Back (s .travel .dimensions .x) (s .travel .pattern .map .width) (pen .pointers .pattern .x);
+        y = turnedBy (s .travel .course .y) 1 (s .travel .pattern .map .height) (pen .pointers .pattern .y);
       }
   unfolding rowPassed rowPoint opposite
   row-pattern d pen =
-      let y : ℕ = turnedBy (s .course .y) 1 (s .pattern .height) (pen .pattern .y) in
+      let y : ℕ = turnedBy (s .travel .course .y) 1 (s .travel .pattern .map .height) (pen .pointers .pattern .y) in
       choose-true _ _ (f .pattern)
-      ∙ (λ i. record { x = turnedBy (opposite (f .right i)) (s .dimensions .x) (s .pattern .width) (pen .pattern .x); y = y })
+      ∙ (λ i. record { x = turnedBy (opposite (f .right i)) (s .travel .dimensions .x) (s .travel .pattern .map .width) (pen .pointers .pattern .x); y = y })
 
 -- ---- the columns of a row
 
 -- the 1s that a row passes in its first n positions
 abbrev ones : Setup → Run → ℕ → ℕ
-ones s t n = onesFrom (t .memory) (s .pattern) (t .pen .pattern) n
+ones s t n = onesFrom (t .memory) (s .travel .pattern .map) (t .pen .pointers .pattern) n
 
 -- a run at column n of the row that began with the run t
 record AtColumn (s : Setup) (t : Run) (row n : ℕ) (u : Run) : Type 0 where
   drawing : u .pen .drawing ≡ Block (isOdd (ones s t n)) n row
-  x : u .pen .pattern .x ≡ forth (s .pattern .width + 1) n (t .pen .pattern .x)
-  y : u .pen .pattern .y ≡ t .pen .pattern .y
+  x : u .pen .pointers .pattern .x ≡ forth (s .travel .pattern .map .width + 1) n (t .pen .pointers .pattern .x)
+  y : u .pen .pointers .pattern .y ≡ t .pen .pointers .pattern .y
 
 module _ (s : Setup) (f : Fills s) (t : Run) (row : ℕ) (start : t .pen .drawing ≡ Block false 0 row)
-    (inside : isInside (s .pattern) (t .pen .pattern) ≡ true) where
+    (inside : isInside (s .travel .pattern .map) (t .pen .pointers .pattern) ≡ true) where
   -- the pen at column n, with the bit as it is after the pixel there
   abbrev here : ℕ → Pen
   here n = crossed s (after s n t .memory) (after s n t .pen)
 
   -- the pixel read at column n
   pixel-at : (n : ℕ) → AtColumn s t row n (after s n t)
-      → pixelAt (after s n t .memory) (s .pattern) (after s n t .pen .pattern .x) (after s n t .pen .pattern .y)
-      ≡ pixelAt (t .memory) (s .pattern) (forth (s .pattern .width + 1) n (t .pen .pattern .x)) (t .pen .pattern .y)
+      → pixelAt (after s n t .memory) (s .travel .pattern .map) (after s n t .pen .pointers .pattern .x) (after s n t .pen .pointers .pattern .y)
+      ≡ pixelAt (t .memory) (s .travel .pattern .map) (forth (s .travel .pattern .map .width + 1) n (t .pen .pointers .pattern .x)) (t .pen .pointers .pattern .y)
   pixel-at n at =
-      ap₂ (pixelAt (after s n t .memory) (s .pattern)) (at .x) (at .y)
-      ∙ pattern-after s f n t _ _ (omega (arith, forth-lt (s .pattern .width + 1) n (t .pen .pattern .x) (omega arith)))
-      (inside-y (s .pattern) (t .pen .pattern) inside)
+      ap₂ (pixelAt (after s n t .memory) (s .travel .pattern .map)) (at .x) (at .y)
+      ∙ pattern-after s f n t _ _ (omega (arith, forth-lt (s .travel .pattern .map .width + 1) n (t .pen .pointers .pattern .x) (omega arith)))
+      (inside-y (s .travel .pattern .map) (t .pen .pointers .pattern) inside)
 
   -- there the bit is turned as the 1s passed and the one there say
   turned-at : (n : ℕ) → AtColumn s t row n (after s n t) → insideAt s (after s n t .memory) (after s n t .pen) ≡ isOdd (ones s t (suc n))
   unfolding onesFrom
   turned-at n at =
       let passed : ℕ = ones s t n in
-      let there : ℕ = pixelAt (t .memory) (s .pattern) (forth (s .pattern .width + 1) n (t .pen .pattern .x)) (t .pen .pattern .y) in
+      let there : ℕ = pixelAt (t .memory) (s .travel .pattern .map) (forth (s .travel .pattern .map .width + 1) n (t .pen .pointers .pattern .x)) (t .pen .pointers .pattern .y) in
       inside-here s f (after s n t) n row (isOdd passed) (at .drawing)
       ∙ ap (λ (pixel : ℕ). choose (not (eqb pixel 0)) (not (isOdd passed)) (isOdd passed)) (pixel-at n at)
       ∙ odd-turned passed there
@@ -142,51 +142,51 @@ module _ (s : Setup) (f : Fills s) (t : Run) (row : ℕ) (start : t .pen .drawin
   unfolding after
   positioned-at n at = stepped-on s (after s n t) (ap unfinished (at .drawing))
 
-  next-column : (n : ℕ) → n < s .dimensions .x → AtColumn s t row n (after s n t) → AtColumn s t row (suc n) (positioned s (after s n t))
+  next-column : (n : ℕ) → n < s .travel .dimensions .x → AtColumn s t row n (after s n t) → AtColumn s t row (suc n) (positioned s (after s n t))
   unfolding positioned crossed penWith columnPassed penStepped
   next-column n less at =
       let to = to-column s f (here n) n row (isOdd (ones s t (suc n))) (crossed-at n at) less in
-      let pattern = ap (λ (p : Pen). p .pattern) to ∙ column-pattern s f (Block (isOdd (ones s t (suc n))) (n + 1) row) (here n) in
+      let pattern = ap (λ (p : Pen). p .pointers .pattern) to ∙ column-pattern s f (Block (isOdd (ones s t (suc n))) (n + 1) row) (here n) in
       record {
         drawing = ap (λ (p : Pen). p .drawing) to ∙ ap (λ (k : ℕ). Block (isOdd (ones s t (suc n))) k row) (add-one n);
         x =
             ap (λ (p : Point). p .x) pattern
-            ∙ ap (forth (s .pattern .width + 1) 1) (at .x)
-            ∙ sym (forth-add (s .pattern .width + 1) 1 n (t .pen .pattern .x))
-            ∙ ap (λ (k : ℕ). forth (s .pattern .width + 1) k (t .pen .pattern .x)) (omega arith);
+            ∙ ap (forth (s .travel .pattern .map .width + 1) 1) (at .x)
+            ∙ sym (forth-add (s .travel .pattern .map .width + 1) 1 n (t .pen .pointers .pattern .x))
+            ∙ ap (λ (k : ℕ). forth (s .travel .pattern .map .width + 1) k (t .pen .pointers .pattern .x)) (omega arith);
         y = ap (λ (p : Point). p .y) pattern ∙ at .y;
       }
 
-  at-column : (n : ℕ) → n ≤ s .dimensions .x → AtColumn s t row n (after s n t)
+  at-column : (n : ℕ) → n ≤ s .travel .dimensions .x → AtColumn s t row n (after s n t)
   unfolding after isOdd onesFrom turnedBy
   at-column zero h =
       record {
         drawing = start;
-        x = sym (turned-none (s .pattern .width) Forth (t .pen .pattern .x) (inside-x (s .pattern) (t .pen .pattern) inside));
+        x = sym (turned-none (s .travel .pattern .map .width) Forth (t .pen .pointers .pattern .x) (inside-x (s .travel .pattern .map) (t .pen .pointers .pattern) inside));
         y = refl;
       }
   at-column (suc n) h = let at = at-column n (omega arith) in rw (positioned-at n at) (next-column n (omega arith) at)
 
   -- 003, Area Fill: in a row the foreground is picked where the 1s passed, this one with them, are odd
-  pub foreground-at : (n : ℕ) → n ≤ s .dimensions .x
-      → isForeground s (after s n t .memory) (after s n t .pen) ≡ isOdd (onesFrom (t .memory) (s .pattern) (t .pen .pattern) (suc n))
+  pub foreground-at : (n : ℕ) → n ≤ s .travel .dimensions .x
+      → isForeground s (after s n t .memory) (after s n t .pen) ≡ isOdd (onesFrom (t .memory) (s .travel .pattern .map) (t .pen .pointers .pattern) (suc n))
   foreground-at n h = foreground-here s f (after s n t) ∙ turned-at n (at-column n h)
 
   -- past its end the next row starts outside, at the pattern's first column and a row on
-  pub row-after : row < s .dimensions .y
-      → (after s (suc (s .dimensions .x)) t .pen .drawing ≡ Block false 0 (row + 1))
-      × (after s (suc (s .dimensions .x)) t .pen .pattern
-      ≡ record { x = t .pen .pattern .x; y = turnedBy (s .course .y) 1 (s .pattern .height) (t .pen .pattern .y) })
+  pub row-after : row < s .travel .dimensions .y
+      → (after s (suc (s .travel .dimensions .x)) t .pen .drawing ≡ Block false 0 (row + 1))
+      × (after s (suc (s .travel .dimensions .x)) t .pen .pointers .pattern
+      ≡ record { x = t .pen .pointers .pattern .x; y = turnedBy (s .travel .course .y) 1 (s .travel .pattern .map .height) (t .pen .pointers .pattern .y) })
   unfolding positioned crossed penWith rowPassed opposite turnedBy
   row-after another =
-      let last : ℕ = s .dimensions .x in
+      let last : ℕ = s .travel .dimensions .x in
       let at = at-column last (omega arith) in
       let to = to-row s f (here last) last row (isOdd (ones s t (suc last))) (crossed-at last at) (omega arith) another in
-      let pattern = ap (λ (p : Pen). p .pattern) to ∙ row-pattern s f (Block false 0 (row + 1)) (here last) in
-      let returned : turnedBy Back last (s .pattern .width) (after s last t .pen .pattern .x) ≡ t .pen .pattern .x =
-      ap (turnedBy Back last (s .pattern .width)) (at .x)
-      ∙ turned-return (s .pattern .width) Forth last (t .pen .pattern .x) (inside-x (s .pattern) (t .pen .pattern) inside) in
+      let pattern = ap (λ (p : Pen). p .pointers .pattern) to ∙ row-pattern s f (Block false 0 (row + 1)) (here last) in
+      let returned : turnedBy Back last (s .travel .pattern .map .width) (after s last t .pen .pointers .pattern .x) ≡ t .pen .pointers .pattern .x =
+      ap (turnedBy Back last (s .travel .pattern .map .width)) (at .x)
+      ∙ turned-return (s .travel .pattern .map .width) Forth last (t .pen .pointers .pattern .x) (inside-x (s .travel .pattern .map) (t .pen .pointers .pattern) inside) in
       rw (positioned-at last at) (
         ap (λ (p : Pen). p .drawing) to,
-        pattern ∙ (λ i. record { x = returned i; y = turnedBy (s .course .y) 1 (s .pattern .height) (at .y i) }),
+        pattern ∙ (λ i. record { x = returned i; y = turnedBy (s .travel .course .y) 1 (s .travel .pattern .map .height) (at .y i) }),
       )

@@ -14,7 +14,8 @@ use Rattle.rules.specs.Rules.{fillHolds, fieldsHold}
 use Rattle.rules.specs.Going.{pointersHold}
 use Rattle.rules.proofs.RefusalLaws.{accepted-holds}
 use Rattle.moves.specs.Turns.{turnedBy}
-use Rattle.moves.specs.Decoded.{signOf, courseOf, flowOf}
+use Rattle.moves.specs.Decoded.{signOf, courseOf, travelOf}
+use Rattle.places.specs.Decoded.{flowOf, brushOf}
 use Rattle.runs.specs.Runs.{begun}
 use Rattle.coprocessor.specs.declared.Coprocessor.{Coprocessor}
 use Rattle.coprocessor.specs.Valid.{startRefusalOf}
@@ -45,7 +46,7 @@ module _ (c : Coprocessor) (going : Going c) (function : functionOf (c .operatio
   fill-right = let h = holds-fill in eqb-true _ 0 (search (h, and-right))
 
   pub fill-setup : Apart (mapAt (c .maps) (patternField (c .operations))) (mapAt (c .maps) (destinationField (c .operations))) → Fills (setupOf c)
-  unfolding setupOf flowOf courseOf signOf
+  unfolding setupOf travelOf brushOf flowOf courseOf signOf
   fill-setup apart = record { fills = is-fill; pattern = fill-pattern; right = rw fill-right; apart = apart }
 
   pub pattern-inside : isInside (mapAt (c .maps) (patternField (c .operations))) (c .pattern) ≡ true
@@ -61,15 +62,15 @@ module _ (row : ℕ) (c : Coprocessor) (r : Row row c) (memory : List ℕ) where
   -- 003, Area Fill: of a row's positions the foreground are those with an odd number of 1s from the row's first to them
   pub row-filled : (n : ℕ) → n ≤ c .dimensions .x
       → foregroundAfter c memory n ≡ isOdd (onesFrom memory (mapAt (c .maps) (patternField (c .operations))) (c .pattern) (suc n))
-  unfolding foregroundAfter ranOf setupOf penOf begun
+  unfolding foregroundAfter ranOf setupOf penOf travelOf begun
   row-filled n h =
       foreground-at (setupOf c) (fill-setup c going (r .function) (r .apart)) (begun (penOf c) memory) row (r .start) (pattern-inside c going (r .function)) n h
 
   -- 02, 102: the next row starts outside, with the pattern's first column again and its next row
   pub rows-start-outside : row < c .dimensions .y
       → (ranOf c memory (suc (c .dimensions .x)) .pen .drawing ≡ Block false 0 (row + 1))
-      × (ranOf c memory (suc (c .dimensions .x)) .pen .pattern
-      ≡ record { x = c .pattern .x; y = turnedBy (setupOf c .course .y) 1 (mapAt (c .maps) (patternField (c .operations)) .height) (c .pattern .y) })
-  unfolding ranOf setupOf penOf begun
+      × (ranOf c memory (suc (c .dimensions .x)) .pen .pointers .pattern
+      ≡ record { x = c .pattern .x; y = turnedBy (setupOf c .travel .course .y) 1 (mapAt (c .maps) (patternField (c .operations)) .height) (c .pattern .y) })
+  unfolding ranOf setupOf penOf travelOf begun
   rows-start-outside another =
       row-after (setupOf c) (fill-setup c going (r .function) (r .apart)) (begun (penOf c) memory) row (r .start) (pattern-inside c going (r .function)) another

@@ -13,7 +13,7 @@ use Rattle.pixels.specs.Maps.{bitsOf}
 use Rattle.pixels.specs.Pixels.{pixelAt}
 use Rattle.parts.specs.Drawings.{unfinished}
 use Rattle.moves.specs.declared.Turn.the-variants.{Forth}
-use Rattle.moves.specs.Decoded.{signOf, courseOf}
+use Rattle.moves.specs.Decoded.{signOf, courseOf, travelOf}
 use Rattle.runs.specs.Runs.{begun}
 use Rattle.coprocessor.specs.declared.Coprocessor.{Coprocessor}
 use Rattle.coprocessor.specs.Runs.{setupOf, penOf, ranOf}
@@ -53,13 +53,13 @@ module _ (map : Map) (f : Coprocessor) (filling : Filling map f) where
   filling-setup : Fills (setupOf f)
   filling-setup = fill-setup f going (filling .function) (rw (filling .pattern) (filling .apart))
 
-  filling-down : setupOf f .course .y ≡ Forth
-  unfolding setupOf courseOf signOf
+  filling-down : setupOf f .travel .course .y ≡ Forth
+  unfolding setupOf travelOf courseOf signOf
   filling-down = rw (filling .down)
 
   filled-there : (memory : List ℕ) (x y : ℕ) → x ≤ f .dimensions .x → y ≤ f .dimensions .y → y ≤ map .height
       → foregroundAfter f memory (positionAt f x y) ≡ isOdd (onesFrom memory map (record { x = 0; y = y }) (suc x))
-  unfolding foregroundAfter ranOf setupOf penOf begun
+  unfolding foregroundAfter ranOf setupOf penOf travelOf begun
   filled-there memory x y across h v =
       foreground-there (setupOf f) filling-setup filling-down (begun (penOf f) memory) (filling .start) (filling .corner) x y across h (rw (filling .pattern) v)
       ∙ ap (λ (m : Map). isOdd (onesFrom memory m (record { x = 0; y = y }) (suc x))) (filling .pattern)

@@ -2,7 +2,7 @@
 use mathlib.Core.Path.{_≡_, sym, ap, ap₂, subst, _∙_}
 use mathlib.Core.Bool.{true}
 use mathlib.Core.List.{List}
-use Prim.Native.Nat.{ℕ, _+_, _%_, _≤_, _<_}
+use Prim.Native.Nat.{ℕ, _+_, _%_, _^_, _≤_, _<_}
 use native.Mathlib.Omega.{arith}
 use lib.ListN.{length}
 use borrow.Author.Tests.{leb-true, eq-eqb}
@@ -16,7 +16,9 @@ use Rattle.parts.specs.Drawings.{unfinished}
 use Rattle.parts.specs.Refusals.{isAccepted}
 use Rattle.rules.specs.Operations.{functionOf, isMap, isFill, isBlock, modeOf, usesPattern}
 use Rattle.rules.specs.Maps.{endHolds}
-use Rattle.moves.specs.Decoded.{courseOf, flowOf, edgeOf}
+use Rattle.mixes.specs.Mixes.{depthOf}
+use Rattle.moves.specs.Decoded.{courseOf, travelOf}
+use Rattle.places.specs.Decoded.{edgeOf, flowOf, brushOf}
 use Rattle.runs.specs.Runs.{begun}
 use Rattle.runs.proofs.RunLaws.{length-after}
 use Rattle.coprocessor.specs.declared.Coprocessor.{Coprocessor}
@@ -32,12 +34,15 @@ use Rattle.areas.proofs.Strokes.{toggled-after}
 
 module _ (map : Map) (size : ℕ) (c : Coprocessor) (stroke : Stroke map size c) where
   stroke-toggles : bitsOf (map .format) ≡ 1 → Toggles (setupOf c)
-  unfolding setupOf flowOf courseOf edgeOf modeOf isBlock isFill usesPattern isMap
+  unfolding setupOf travelOf brushOf flowOf courseOf edgeOf depthOf modeOf isBlock isFill usesPattern isMap
   stroke-toggles one =
       let w = writes (functionOf (c .operations)) (stroke .function) in
       let mode : modeOf (c .operations) ≡ 3 = choose-false _ _ (w .block) ∙ stroke .mode in
+      let bits = ap (λ (m : Map). bitsOf (m .format)) (stroke .destination) ∙ one in
+      let plane : c .planes % 2 ^ 1 % 2 ≡ 1 = omega (arith, stroke .plane) in
       record {
-        bits = ap (λ (m : Map). bitsOf (m .format)) (stroke .destination) ∙ one;
+        bits = bits;
+        depth = bits;
         write = w .read;
         mode = mode;
         bounds = eq-eqb _ 3 mode;
@@ -49,12 +54,12 @@ module _ (map : Map) (size : ℕ) (c : Coprocessor) (stroke : Stroke map size c)
         mix = stroke .mix;
         colour = stroke .colour;
         condition = stroke .condition;
-        plane = stroke .plane;
+        plane = ap (λ (n : ℕ). c .planes % 2 ^ n % 2) bits ∙ plane;
       }
 
   -- its map ends within the memory
   stroke-held : unfinished (c .drawing) ≡ true → (x y : ℕ) → x ≤ map .width → y ≤ map .height → placeOf map x y < size
-  unfolding setupOf endHolds
+  unfolding setupOf brushOf endHolds
   stroke-held going x y across down =
       let ends : endHolds size map ≡ true =
       ap₂ endHolds (sym (stroke .memory)) (sym (stroke .destination)) ∙ valid-safe c (stroke .valid) going .destination in
@@ -75,14 +80,14 @@ module _ (map : Map) (size : ℕ) (c : Coprocessor) (stroke : Stroke map size c)
   run-length memory same n = ap length (run-memory memory same n) ∙ length-after (setupOf c) n (begun (penOf c) memory) ∙ same
 
   run-toggles : bitsOf (map .format) ≡ 1 → (memory : List ℕ) → length memory ≡ size → (x y : ℕ) → x ≤ map .width → y ≤ map .height → (n : ℕ)
-      → pixelAt (runMemory c memory n) map x y ≡ (pixelAt memory map x y + crossings (setupOf c) (penOf c) x y n) % 2
-  unfolding ranOf setupOf penOf
+      → pixelAt (runMemory c memory n) map x y ≡ (pixelAt memory map x y + crossings (setupOf c .travel) (penOf c) x y n) % 2
+  unfolding ranOf setupOf penOf brushOf
   run-toggles one memory same x y across down n =
       ap (λ (m : List ℕ). pixelAt m map x y) (run-memory memory same n)
       ∙ subst
       (λ (m : Map).
       x ≤ m .width → y ≤ m .height → (unfinished (c .drawing) ≡ true → placeOf m x y < length memory)
-      → pixelAt (ranOf c memory n .memory) m x y ≡ (pixelAt memory m x y + crossings (setupOf c) (penOf c) x y n) % 2) (stroke .destination)
+      → pixelAt (ranOf c memory n .memory) m x y ≡ (pixelAt memory m x y + crossings (setupOf c .travel) (penOf c) x y n) % 2) (stroke .destination)
       (λ a d h. toggled-after (setupOf c) (stroke-toggles one) (penOf c) (stroke .start) (destination-on c (stroke .valid)) memory x y a d h n)
       across down (λ going. rw same (stroke-held going x y across down))
 

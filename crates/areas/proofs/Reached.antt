@@ -17,7 +17,7 @@ use Rattle.rules.specs.Starts.{codeAt}
 use Rattle.moves.specs.declared.Turn.{Turn}
 use Rattle.moves.specs.declared.Turn.the-variants.{Stay, Forth, Back}
 use Rattle.moves.specs.declared.Step.{Step}
-use Rattle.moves.specs.declared.Setup.{Setup}
+use Rattle.moves.specs.declared.Travel.{Travel}
 use Rattle.moves.specs.Steps.{lineStep, codeStep, movesRow, goesUp}
 use Rattle.moves.specs.Moves.{rises, codePassed}
 use Rattle.moves.proofs.Counters.{drawingAfter}
@@ -28,7 +28,7 @@ use Rattle.areas.proofs.Rows.{goesDown}
 -- ---- the turn that leaves a position
 
 -- how the row of a position of a line or codes goes to the next one's
-unfoldable pub turnOf : Setup → ℤ → Drawing → Turn
+unfoldable pub turnOf : Travel → ℤ → Drawing → Turn
 turnOf s e (Nothing stopped) = Stay
 turnOf s e (Line rose done) = choose (ltb done (s .dimensions .x)) (lineStep (s .course) e .y) Stay
 turnOf s e (Codes count code done) = choose (ltb done (codeAt (s .steps) count code % 16)) (codeStep (codeAt (s .steps) count code) .y) Stay
@@ -36,7 +36,7 @@ turnOf s e (Block inside column row) = Stay
 
 -- a position of a line or codes, or none, and the turn that led to it: none to the first, along the line's way in Y or level to the next of a line, the
 -- code's to the next of a code, and none from code to code
-pub data Reached (s : Setup) : Turn → Drawing → Type 0 where
+pub data Reached (s : Travel) : Turn → Drawing → Type 0 where
   none : {turn : Turn} {stopped : Bool} → Reached s turn (Nothing stopped)
   line : {done : ℕ} (steps : Bool) → done ≤ s .dimensions .x
       → Reached s (choose steps (s .course .y) Stay) (Line (goesUp (choose steps (s .course .y) Stay)) done)
@@ -44,7 +44,7 @@ pub data Reached (s : Setup) : Turn → Drawing → Type 0 where
   next : {count code done : ℕ} → done < codeAt (s .steps) count code % 16
       → Reached s (codeStep (codeAt (s .steps) count code) .y) (Codes count code (done + 1))
 
-module _ (s : Setup) where
+module _ (s : Travel) where
   pub start-reached : (d : Drawing) → atStart d ≡ true → Reached s Stay d
   unfolding atStart goesUp
   start-reached (Nothing stopped) e = none
@@ -166,7 +166,7 @@ another done last h = by (eqb done last) refl
     by true e = le-ltb done last (omega (arith, eqb-true done last e))
     by false e = lt-ltb done last (omega (arith, eqb-false done last e))
 
-module _ (s : Setup) where
+module _ (s : Travel) where
   -- a position is drawn where the turn that leaves it goes down, or the turn that led to it went up
   pub boundary-turns : (e : ℤ) {turn : Turn} {d : Drawing} → Reached s turn d → unfinished d ≡ true
       → onBoundary s e d ≡ goesDown (turnOf s e d) || goesUp turn

@@ -1,7 +1,7 @@
 -- One position of an outline turns its own pixel and no other: mix xor with colour 1 adds 1 to a pixel of 1 bit, and only the boundary mode, a move code
 -- or the map's edge keeps a position back.
 use mathlib.Core.Path.{_≡_, refl, sym, ap, ap₂, _∙_}
-use mathlib.Core.Bool.{Bool, true, false, not, _&&_, _||_, false≢true, or-false}
+use mathlib.Core.Bool.{Bool, true, false, not, _&&_, _||_, false≢true}
 use mathlib.Core.List.{List}
 use mathlib.Core.Logic.{⊎-elim}
 use Prim.Native.Nat.{ℕ, _+_, _%_, _^_, _≤_, _<_, zero-le}
@@ -20,31 +20,32 @@ use Rattle.mixes.specs.Mixes.{tableBit, logical, merged, mixed}
 use Rattle.mixes.specs.Conditions.{holdsOf, conditionHolds}
 use Rattle.mixes.proofs.Binary.{last-cases}
 use Rattle.parts.specs.declared.shapes.Ink.{Ink}
-use Rattle.moves.specs.declared.Setup.{Setup}
 use Rattle.moves.specs.declared.Pen.{Pen}
+use Rattle.places.specs.declared.Setup.{Setup}
 use Rattle.places.specs.Places.{isWithin, columnOf, placeX, onMap, inMask, isMove, isNulled}
-use Rattle.position.specs.Fates.{destinationPixel, onZero, isCompared}
-use Rattle.position.specs.Drawn.{isForeground, inkOf, picked, mixedPixel, drawn}
-use Rattle.position.specs.Inner.{isLeftOut, writtenOf}
-use Rattle.position.proofs.Writing.{on-map, drawn-in}
+use Rattle.position.specs.declared.Fate.the-variants.{Moved, Nulled, OutsideMap, Painted}
+use Rattle.position.specs.Fates.{destinationPixel, onZero, isCompared, fateOf}
+use Rattle.position.specs.Drawn.{isForeground, inkOf, picked, mixedPixel, drawnBy, drawn}
+use Rattle.position.proofs.Writing.{on-map}
 use Rattle.areas.specs.Crossings.{samePlace}
 use Rattle.areas.proofs.Rows.{same-self, same-true}
 
 -- how a stroke of an outline is set up
 pub record Toggles (s : Setup) : Type 0 where
-  pub bits : bitsOf (s .destination .format) ≡ 1
-  pub write : s .course .read ≡ false
-  pub mode : s .flow .mode ≡ 3
-  pub bounds : s .course .bounds ≡ true
-  pub edge : s .edge ≡ pos 0
-  pub mask : s .flow .mask ≡ 0
-  pub pattern : s .flow .pattern ≡ false
-  pub derived : s .flow .derived ≡ false
-  pub source : s .flow .foreground ≡ false
-  pub mix : s .foreground .mix ≡ 6
-  pub colour : s .foreground .colour % 2 ≡ 1
-  pub condition : s .compare .condition ≡ 4
-  pub plane : s .planes % 2 ≡ 1
+  pub bits : bitsOf (s .brush .destination .format) ≡ 1
+  pub depth : s .brush .depth .bits ≡ 1
+  pub write : s .travel .course .read ≡ false
+  pub mode : s .brush .flow .mode ≡ 3
+  pub bounds : s .travel .course .bounds ≡ true
+  pub edge : s .brush .edge ≡ pos 0
+  pub mask : s .brush .mask .mode ≡ 0
+  pub pattern : s .travel .pattern .used ≡ false
+  pub derived : s .brush .flow .derived ≡ false
+  pub source : s .brush .flow .foreground ≡ false
+  pub mix : s .brush .inks .foreground .mix ≡ 6
+  pub colour : s .brush .inks .foreground .colour % 2 ≡ 1
+  pub condition : s .brush .inks .compare .condition ≡ 4
+  pub plane : s .brush .depth .planes % 2 ≡ 1
 
 -- ---- the mix
 
@@ -55,10 +56,6 @@ xor-one m c d plane colour =
     (λ (even : d % 2 ≡ 0). let next : (d + 1) % 2 ≡ 1 = omega arith in rw (plane, colour, even, next))
     (λ (odd : d % 2 ≡ 1). let next : (d + 1) % 2 ≡ 0 = omega arith in rw (plane, colour, odd, next))
     (last-cases d)
-
--- without a mask, none keeps back
-unmasked : (back : Bool) (mask : ℕ) (inside off : Bool) → mask ≡ 0 → (back || not (eqb mask 0 || inside) || (eqb mask 2 && off)) ≡ back
-unmasked back mask inside off e = rw e (or-false (back || false) ∙ or-false back)
 
 -- a place within is its own row
 on-row : (last : ℕ) (z : ℤ) → isWithin last z ≡ true → z ≡ pos (columnOf z)
@@ -73,121 +70,137 @@ placed (pos n) = rw (le-ltb n 0 zero-le)
 placed (negsuc n) = refl
 
 module _ (s : Setup) (t : Toggles s) (memory : List ℕ) (pen : Pen) where
-  place : placeX s pen ≡ pos (columnOf (pen .destination .x))
+  place : placeX (s .brush) pen ≡ pos (columnOf (pen .pointers .destination .x))
   unfolding placeX
-  place = rw (t .edge) (placed (pen .destination .x))
+  place = rw (t .edge) (placed (pen .pointers .destination .x))
 
   foreground : isForeground s memory pen ≡ true
   unfolding isForeground
   foreground = choose-false _ _ (t .pattern) ∙ choose-false _ _ (t .derived)
 
-  ink : inkOf s memory pen ≡ s .foreground
+  ink : inkOf s memory pen ≡ s .brush .inks .foreground
   unfolding inkOf
   ink = choose-true _ _ foreground
 
-  colour-picked : picked s memory pen ≡ s .foreground .colour
+  colour-picked : picked s memory pen ≡ s .brush .inks .foreground .colour
   unfolding picked
   colour-picked = choose-false _ _ (choose-true _ _ foreground ∙ t .source) ∙ ap (λ (i : Ink). i .colour) ink
 
-  mixed-one : mixedPixel s memory pen ≡ (destinationPixel s memory pen + 1) % 2
+  mixed-one : mixedPixel s memory pen ≡ (destinationPixel (s .brush) memory pen + 1) % 2
   unfolding mixedPixel
   mixed-one =
-      ap (λ (n : ℕ). mixed n (inkOf s memory pen .mix) (s .planes) (picked s memory pen) (destinationPixel s memory pen)) (t .bits)
-      ∙ ap₂ (λ code c. mixed 1 code (s .planes) c (destinationPixel s memory pen)) (ap (λ (i : Ink). i .mix) ink ∙ t .mix) colour-picked
-      ∙ xor-one (s .planes) (s .foreground .colour) (destinationPixel s memory pen) (t .plane) (t .colour)
+      let planes : ℕ = s .brush .depth .planes in
+      let old : ℕ = destinationPixel (s .brush) memory pen in
+      ap (λ (n : ℕ). mixed n (inkOf s memory pen .mix) planes (picked s memory pen) old) (t .depth)
+      ∙ ap₂ (λ code c. mixed 1 code planes c old) (ap (λ (i : Ink). i .mix) ink ∙ t .mix) colour-picked
+      ∙ xor-one planes (s .brush .inks .foreground .colour) old (t .plane) (t .colour)
 
   -- ---- what keeps a position back
 
-  left-out : isLeftOut s memory pen ≡ isMove s (pen .drawing) || isNulled s pen || not (onMap s pen)
-  unfolding isLeftOut inMask onZero
-  left-out = unmasked (isMove s (pen .drawing) || isNulled s pen || not (onMap s pen)) (s .flow .mask) _ _ (t .mask)
+  -- without a mask, none
+  unbounded : inMask (s .brush) pen ≡ true
+  unfolding inMask
+  unbounded = rw (t .mask)
 
-  never : isCompared s memory pen ≡ false
+  unmasked : onZero (s .brush) memory pen ≡ false
+  unfolding onZero
+  unmasked = rw (t .mask)
+
+  never : isCompared (s .brush) memory pen ≡ false
   unfolding isCompared conditionHolds holdsOf
   never = rw (t .condition)
 
+  abbrev moves : Bool
+  moves = isMove (s .travel) (pen .drawing)
+
   -- memory with the pixel turned
   abbrev turned : List ℕ
-  turned = withPixel memory (s .destination) (columnOf (placeX s pen)) (columnOf (pen .destination .y)) (mixedPixel s memory pen)
+  turned =
+      withPixel memory (s .brush .destination) (columnOf (placeX (s .brush) pen)) (columnOf (pen .pointers .destination .y)) (mixedPixel s memory pen)
 
-  drawn-turned : drawn s memory pen ≡ choose (isMove s (pen .drawing) || isNulled s pen || not (onMap s pen)) memory turned
-  unfolding writtenOf
-  drawn-turned =
-      drawn-in s memory pen
-      ∙ ap (λ (back : Bool). choose back memory (writtenOf s memory pen)) left-out
-      ∙ ap (choose (isMove s (pen .drawing) || isNulled s pen || not (onMap s pen)) memory) (choose-false _ _ never)
+  drawn-turned : drawn s memory pen ≡ choose (moves || isNulled s pen || not (onMap (s .brush) pen)) memory turned
+  unfolding fateOf drawnBy drawn
+  drawn-turned = rw (unbounded, unmasked, never) (by moves (isNulled s pen) (onMap (s .brush) pen))
+    where
+      by : (back nulled on : Bool)
+          → drawnBy (choose back Moved (choose nulled Nulled (choose (not on) OutsideMap Painted))) s memory pen
+          ≡ choose (back || nulled || not on) memory turned
+      by true nulled on = refl
+      by false true on = refl
+      by false false true = refl
+      by false false false = refl
 
   -- ---- the pixel of a column and row
 
-  module _ (x y : ℕ) (across : x ≤ s .destination .width) (down : y ≤ s .destination .height) where
+  module _ (x y : ℕ) (across : x ≤ s .brush .destination .width) (down : y ≤ s .brush .destination .height) where
     -- the position lies there; left of the map it lies in column 0
     abbrev lies : Bool
-    lies = eqb (columnOf (pen .destination .x)) x && samePlace (pen .destination .y) (pos y)
+    lies = eqb (columnOf (pen .pointers .destination .x)) x && samePlace (pen .pointers .destination .y) (pos y)
 
     abbrev pixel : List ℕ → ℕ
-    pixel m = pixelAt m (s .destination) x y
+    pixel m = pixelAt m (s .brush .destination) x y
 
     pub pixel-bit : pixel memory < 2
-    pixel-bit = rw (t .bits) at (pixel-lt memory (s .destination) x y)
+    pixel-bit = rw (t .bits) at (pixel-lt memory (s .brush .destination) x y)
 
-    column-there : lies ≡ true → columnOf (pen .destination .x) ≡ x
-    column-there e = eqb-true _ x (and-left _ (samePlace (pen .destination .y) (pos y)) e)
+    column-there : lies ≡ true → columnOf (pen .pointers .destination .x) ≡ x
+    column-there e = eqb-true _ x (and-left _ (samePlace (pen .pointers .destination .y) (pos y)) e)
 
-    place-there : lies ≡ true → columnOf (placeX s pen) ≡ x
+    place-there : lies ≡ true → columnOf (placeX (s .brush) pen) ≡ x
     unfolding columnOf
     place-there e = ap columnOf place ∙ column-there e
 
-    row-there : lies ≡ true → pen .destination .y ≡ pos y
-    row-there e = same-true (pen .destination .y) (pos y) (and-right (eqb (columnOf (pen .destination .x)) x) _ e)
+    row-there : lies ≡ true → pen .pointers .destination .y ≡ pos y
+    row-there e = same-true (pen .pointers .destination .y) (pos y) (and-right (eqb (columnOf (pen .pointers .destination .x)) x) _ e)
 
     -- so it is on the map
-    there-on : lies ≡ true → onMap s pen ≡ true
+    there-on : lies ≡ true → onMap (s .brush) pen ≡ true
     unfolding onMap isWithin
     there-on e =
         let column = column-there e in
         and-both _ _
-        (ap (isWithin (s .destination .width)) place
-        ∙ le-leb (columnOf (pen .destination .x)) (s .destination .width) (omega arith))
-        (ap (isWithin (s .destination .height)) (row-there e) ∙ le-leb y (s .destination .height) down)
+        (ap (isWithin (s .brush .destination .width)) place
+        ∙ le-leb (columnOf (pen .pointers .destination .x)) (s .brush .destination .width) (omega arith))
+        (ap (isWithin (s .brush .destination .height)) (row-there e) ∙ le-leb y (s .brush .destination .height) down)
 
     -- where it lies there the pixel is turned
-    there-turned : placeOf (s .destination) x y < length memory → lies ≡ true → pixel turned ≡ (pixel memory + 1) % 2
+    there-turned : placeOf (s .brush .destination) x y < length memory → lies ≡ true → pixel turned ≡ (pixel memory + 1) % 2
     unfolding columnOf destinationPixel
     there-turned held e =
-        let row : columnOf (pen .destination .y) ≡ y = ap columnOf (row-there e) in
+        let row : columnOf (pen .pointers .destination .y) ≡ y = ap columnOf (row-there e) in
         let v : ℕ = mixedPixel s memory pen in
         let same : v ≡ (pixel memory + 1) % 2 =
-        mixed-one ∙ ap₂ (λ a b. (pixelAt memory (s .destination) a b + 1) % 2) (place-there e) row in
-        ap₂ (λ a b. pixelAt (withPixel memory (s .destination) a b v) (s .destination) x y) (place-there e) row
-        ∙ get-put-same memory (s .destination) x y v held
+        mixed-one ∙ ap₂ (λ a b. (pixelAt memory (s .brush .destination) a b + 1) % 2) (place-there e) row in
+        ap₂ (λ a b. pixelAt (withPixel memory (s .brush .destination) a b v) (s .brush .destination) x y) (place-there e) row
+        ∙ get-put-same memory (s .brush .destination) x y v held
         ∙ ap (λ (n : ℕ). v % 2 ^ n) (t .bits)
         ∙ omega arith
 
     -- and where it lies elsewhere on the map the pixel stays
-    elsewhere-kept : onMap s pen ≡ true → lies ≡ false → pixel turned ≡ pixel memory
+    elsewhere-kept : onMap (s .brush) pen ≡ true → lies ≡ false → pixel turned ≡ pixel memory
     unfolding onMap columnOf
     elsewhere-kept on e =
-        get-put-other memory (s .destination) _ _ (mixedPixel s memory pen) x y (on-map s pen on .0) across
+        get-put-other memory (s .brush .destination) _ _ (mixedPixel s memory pen) x y (on-map (s .brush) pen on .0) across
         (λ both.
-        let row = on-row (s .destination .height) (pen .destination .y) (and-right (isWithin (s .destination .width) (placeX s pen)) _ on) ∙ ap pos (both .1) in
+        let row = on-row (s .brush .destination .height) (pen .pointers .destination .y) (and-right (isWithin (s .brush .destination .width) (placeX (s .brush) pen)) _ on) ∙ ap pos (both .1) in
         false≢true
         (sym e ∙ and-both _ _ (eq-eqb _ x (ap columnOf (sym place) ∙ both .0)) (ap (λ (z : ℤ). samePlace z (pos y)) row ∙ same-self (pos y))))
 
-    pub pixel-drawn : (drawn? : Bool) → placeOf (s .destination) x y < length memory → isNulled s pen ≡ not drawn?
+    pub pixel-drawn : (drawn? : Bool) → placeOf (s .brush .destination) x y < length memory → isNulled s pen ≡ not drawn?
         → pixel (drawn s memory pen)
         ≡ (pixel memory
-        + choose (not (isMove s (pen .drawing)) && drawn? && eqb (columnOf (pen .destination .x)) x && samePlace (pen .destination .y) (pos y)) 1 0) % 2
+        + choose (not (moves) && drawn? && eqb (columnOf (pen .pointers .destination .x)) x && samePlace (pen .pointers .destination .y) (pos y)) 1 0) % 2
     pixel-drawn drawn? held e =
-        ap pixel (drawn-turned ∙ ap (λ (n : Bool). choose (isMove s (pen .drawing) || n || not (onMap s pen)) memory turned) e)
-        ∙ by (isMove s (pen .drawing)) drawn? (onMap s pen) lies refl refl
+        ap pixel (drawn-turned ∙ ap (λ (n : Bool). choose (moves || n || not (onMap (s .brush) pen)) memory turned) e)
+        ∙ by (moves) drawn? (onMap (s .brush) pen) lies refl refl
       where
         kept : pixel memory ≡ (pixel memory + 0) % 2
         kept = omega (arith, pixel-bit)
 
-        by : (moves draws on there : Bool) → onMap s pen ≡ on → lies ≡ there
+        by : (moves draws on there : Bool) → onMap (s .brush) pen ≡ on → lies ≡ there
             → pixel (choose (moves || not draws || not on) memory turned)
             ≡ (pixel memory
-            + choose (not moves && draws && eqb (columnOf (pen .destination .x)) x && samePlace (pen .destination .y) (pos y)) 1 0) % 2
+            + choose (not moves && draws && eqb (columnOf (pen .pointers .destination .x)) x && samePlace (pen .pointers .destination .y) (pos y)) 1 0) % 2
         by true draws on there o l = kept
         by false false on there o l = kept
         by false true false true o l = absurd (false≢true (sym o ∙ there-on l))

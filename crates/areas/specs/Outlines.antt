@@ -56,4 +56,4 @@ outlined (c ∷ cs) memory = outlined cs (runMemory c memory (wholeOf c))
 -- 02, 102: the crossings of all of them at column x of row y
 unfoldable pub crossingsOf : List Coprocessor → ℕ → ℕ → ℕ
 crossingsOf [] x y = 0
-crossingsOf (c ∷ cs) x y = crossings (setupOf c) (penOf c) x y (wholeOf c) + crossingsOf cs x y
+crossingsOf (c ∷ cs) x y = crossings (setupOf c .travel) (penOf c) x y (wholeOf c) + crossingsOf cs x y

@@ -1,7 +1,7 @@
-// What move codes and the drawing mode hold back, asked by the kind of drawing first, so that a block asks nothing.
+// What move codes and the drawing mode hold back, asked by the kind of drawing first.
 
 ghost use mathlib.Core.Path.{_≡_};
-ghost use mathlib.Core.Bool.{not};
+ghost use mathlib.Core.Bool.{true, false, not};
 ghost use Prim.Native.Nat.{ℕ};
 ghost use lib.Dec.{eqb};
 ghost use lib.IntN.{ℤ};
@@ -9,6 +9,7 @@ ghost use Rattle.rules.specs.Codes.{codeAt};
 ghost use Rattle.moves.specs.declared.Travel.{Travel};
 ghost use Rattle.moves.specs.Steps.{codeStep};
 ghost use Rattle.parts.specs.declared.drawing.Drawing.the-variants.{Line, Codes};
+ghost use Rattle.places.specs.declared.Setup.{Setup};
 ghost use Rattle.places.specs.Places.{ofRun, isMove, onBoundary, nulledBy};
 ghost use Rattle.places.specs.Inner.{codeIn};
 use crate::Setup;
@@ -80,6 +81,18 @@ fn code_nulled(setup: Setup, code: u8, done: u16) -> bool
         2 => last,
         3 => !code_bounds(code, done, last),
         _ => false,
+    }
+}
+
+// Whether nothing holds a position back, whatever its mode: one of a block.
+pub fn is_free(drawing: Drawing) -> bool
+    ensures { λ r. ⌜ (r ≡ true → (s : Setup) (e : ℤ) → (isMove (s .travel) drawing ≡ false) × (nulledBy s e drawing ≡ false)) ⌝ }
+{
+    match drawing {
+        Drawing::Nothing { .. } => false,
+        Drawing::Line { .. } => false,
+        Drawing::Codes { .. } => false,
+        Drawing::Block { .. } => true,
     }
 }
 

@@ -65,15 +65,21 @@ picked-read s memory pen foreground colour =
     (λ e. choose-true _ 0 (picked-reads (s .brush .flow) foreground e) ∙ sym (choose-true _ colour e))
     (λ e. sym (choose-false _ colour e))
 
--- what is read of the pattern is a fill's bit, as a fill uses a pattern map
-pub inside-read : (s : Setup) (memory : List ℕ) (pen : Pen) → (s .brush .flow .fills ≡ true → s .travel .pattern .used ≡ true)
-    → (s .brush .flow .fills && patternRead s memory pen) ≡ insideAt s memory pen
-unfolding patternRead insideAt
-inside-read s memory pen crossing = by (s .brush .flow .fills) (s .travel .pattern .used) _ _ crossing
+-- without a pattern map there is no fill
+unfilled : (s : Setup) (memory : List ℕ) (pen : Pen) → (s .brush .flow .fills ≡ true → s .travel .pattern .used ≡ true)
+    → s .travel .pattern .used ≡ false → insideAt s memory pen ≡ false
+unfolding insideAt
+unfilled s memory pen crossing unused = by (s .brush .flow .fills) _ crossing
   where
-    by : (fills used turned one : Bool) → (fills ≡ true → used ≡ true) → (fills && choose used (choose fills (fills && turned) one) true) ≡ (fills && turned)
-    by false used turned one h = refl
-    by true used turned one h = rw (h refl)
+    by : (fills turned : Bool) → (fills ≡ true → s .travel .pattern .used ≡ true) → (fills && turned) ≡ false
+    by false turned h = refl
+    by true turned h = absurd (false≢true (sym unused ∙ h refl))
+
+-- so the pattern is 1 there
+pub pattern-unread : (s : Setup) (memory : List ℕ) (pen : Pen) → (s .brush .flow .fills ≡ true → s .travel .pattern .used ≡ true)
+    → s .travel .pattern .used ≡ false → patternRead s memory pen ≡ record { one = true; inside = false }
+unfolding patternRead
+pattern-unread s memory pen crossing unused = rw (unfilled s memory pen crossing unused, unused)
 
 -- ---- a safe position
 

@@ -19,7 +19,7 @@ use Rattle.position.specs.declared.Fate.{Fate}
 use Rattle.position.specs.declared.Fate.the-variants.{Moved, Nulled, OutsideMap, OutsideMask, MaskZero, Compared, Painted}
 use Rattle.position.specs.Fates.{onZero, isCompared, fateOf}
 use Rattle.position.specs.Drawn.{mixedPixel, drawnBy, drawn}
-use Rattle.position.specs.Inner.{foreseenOf}
+use Rattle.position.specs.Inner.{heldOf, foreseenOf}
 use Rattle.position.proofs.Fate.{the-type}
 
 -- the destination's column and row
@@ -86,6 +86,27 @@ fated-same false false true true f g same = same refl refl
 judged-painted : (zero compared : Bool) → judged zero compared ≡ Painted → zero ≡ false
 judged-painted true compared e = cc
 judged-painted false compared e = refl
+
+-- where nothing holds a position back, the map and the mask boundary tell what is foreseen, and otherwise it is that
+pub held-open : (s : Setup) (pen : Pen) → heldOf s pen ≡ Painted
+    → foreseenOf s pen ≡ choose (not (onMap (s .brush) pen)) OutsideMap (choose (not (inMask (s .brush) pen)) OutsideMask Painted)
+unfolding heldOf foreseenOf
+held-open s pen = by (isMove (s .travel) (pen .drawing)) (isNulled s pen) _
+  where
+    by : (moves nulled : Bool) (f : Fate) → choose moves Moved (choose nulled Nulled Painted) ≡ Painted → choose moves Moved (choose nulled Nulled f) ≡ f
+    by true nulled f e = cc
+    by false true f e = cc
+    by false false f e = refl
+
+pub held-closed : (s : Setup) (pen : Pen) → (heldOf s pen ≡ Painted → ⊥) → foreseenOf s pen ≡ heldOf s pen
+unfolding heldOf foreseenOf
+held-closed s pen = by (isMove (s .travel) (pen .drawing)) (isNulled s pen) _
+  where
+    by : (moves nulled : Bool) (f : Fate) → (choose moves Moved (choose nulled Nulled Painted) ≡ Painted → ⊥)
+        → choose moves Moved (choose nulled Nulled f) ≡ choose moves Moved (choose nulled Nulled Painted)
+    by true nulled f ne = refl
+    by false true f ne = refl
+    by false false f ne = absurd (ne refl)
 
 -- a position that is foreseen as painted is inside its map and the mask boundary
 pub open-inside : (s : Setup) (pen : Pen) → foreseenOf s pen ≡ Painted → (onMap (s .brush) pen ≡ true) × (inMask (s .brush) pen ≡ true)

@@ -13,19 +13,27 @@ use Rattle.places.specs.declared.Setup.{Setup}
 use Rattle.places.specs.Places.{columnOf, placeX, onMap, inMask, isMove, isNulled}
 use Rattle.position.specs.declared.Fate.{Fate}
 use Rattle.position.specs.declared.Fate.the-variants.{Moved, Nulled, OutsideMap, OutsideMask, Painted}
+use Rattle.position.specs.declared.Pattern.{Pattern}
 use Rattle.position.specs.declared.Sight.{Sight}
 use Rattle.position.specs.Fates.{destinationPixel, onZero}
 use Rattle.position.specs.Drawn.{sourcePixel, isOne, insideAt}
 use Rattle.position.specs.Within.{readsSource}
 
 -- the pattern as it is read: its map's pixel, in a fill whether that is inside then, and 1 where the map is not used
-unfoldable pub patternRead : Setup → List ℕ → Pen → Bool
+unfoldable pub patternRead : Setup → List ℕ → Pen → Pattern
 patternRead s memory pen =
-    choose (s .travel .pattern .used) (choose (s .brush .flow .fills) (insideAt s memory pen) (isOne (s .travel) memory pen)) true
+    record {
+      one = choose (s .travel .pattern .used) (choose (s .brush .flow .fills) (insideAt s memory pen) (isOne (s .travel) memory pen)) true;
+      inside = insideAt s memory pen;
+    }
 
 -- the source pixel as it is read, 0 where it is not
 unfoldable pub sourceRead : Setup → List ℕ → Pen → ℕ
 sourceRead s memory pen = choose (readsSource (s .brush .flow)) (sourcePixel (s .travel) memory pen) 0
+
+-- what becomes of a position wherever it is
+unfoldable pub heldOf : Setup → Pen → Fate
+heldOf s pen = choose (isMove (s .travel) (pen .drawing)) Moved (choose (isNulled s pen) Nulled Painted)
 
 -- what becomes of a position as far as no memory tells
 unfoldable pub foreseenOf : Setup → Pen → Fate
@@ -38,7 +46,7 @@ foreseenOf s pen =
 
 -- this is what a position finds in a memory: of mask and destination where it may be painted, and of the destination where the mask lets it
 pub record Seen (s : Setup) (memory : List ℕ) (pen : Pen) (sight : Sight) : Type 0 where
-  pub pattern : sight .one ≡ patternRead s memory pen
+  pub pattern : sight .pattern ≡ patternRead s memory pen
   pub source : sight .source ≡ sourceRead s memory pen
   pub foreseen : sight .foreseen ≡ foreseenOf s pen
   pub zero : foreseenOf s pen ≡ Painted → sight .zero ≡ onZero (s .brush) memory pen

@@ -22,7 +22,7 @@ pub fn draw(setup: Setup, memory: &mut [u8], pen: Pen) -> bool
     ensures { λ r. ⌜ (r ≡ insideAt setup (now (memory .entry)) pen) × (now (memory .exit) ≡ drawn setup (now (memory .entry)) pen) ⌝ }
 {
     let sight = look(setup, memory, pen);
-    let inside = setup.brush.flow.fills & sight.one;
+    let inside = sight.pattern.inside;
     let fate = judge(setup, sight);
     if let Fate::Painted = fate {
         write(setup, memory, sight);

@@ -7,7 +7,7 @@ ghost use Rattle.mixes.specs.Conditions.{conditionHolds};
 ghost use Rattle.mixes.specs.Inner.{Cut};
 ghost use Rattle.moves.specs.declared.Pen.{Pen};
 ghost use Rattle.position.specs.Fates.{fateOf};
-ghost use Rattle.position.specs.Inner.{foreseenOf, Seen};
+ghost use Rattle.position.specs.Inner.{heldOf, foreseenOf, Seen};
 use crate::Fate;
 use crate::Sight;
 use mixes::conditions::holds;
@@ -15,16 +15,20 @@ use moves::Pen;
 use places::Brush;
 use places::Setup;
 use places::modes::code_in;
+use places::modes::is_free;
 use places::modes::is_move;
 use places::modes::is_nulled;
 use places::places::in_mask;
 use places::places::on_map;
 
-// What becomes of a position as far as no memory tells.
-pub(crate) fn foresee(setup: Setup, pen: Pen) -> Fate
-    ensures { λ r. ⌜ r ≡ foreseenOf setup pen ⌝ }
+// What becomes of a position wherever it is: what move codes and the drawing mode hold back.
+fn hold(setup: Setup, pen: Pen) -> Fate
+    ensures { λ r. ⌜ r ≡ heldOf setup pen ⌝ }
 {
     let drawing = pen.drawing;
+    if is_free(drawing) {
+        return Fate::Painted;
+    }
     let code = code_in(setup.travel.figure.steps, drawing);
     if is_move(code, drawing) {
         return Fate::Moved;
@@ -32,13 +36,23 @@ pub(crate) fn foresee(setup: Setup, pen: Pen) -> Fate
     if is_nulled(setup, code, pen.e, drawing) {
         return Fate::Nulled;
     }
-    if !on_map(setup.brush, pen) {
-        return Fate::OutsideMap;
-    }
-    if !in_mask(setup.brush, pen) {
-        return Fate::OutsideMask;
-    }
     Fate::Painted
+}
+
+// What becomes of a position as far as no memory tells.
+pub(crate) fn foresee(setup: Setup, pen: Pen) -> Fate
+    ensures { λ r. ⌜ r ≡ foreseenOf setup pen ⌝ }
+{
+    let held = hold(setup, pen);
+    if let Fate::Painted = held {
+        if !on_map(setup.brush, pen) {
+            return Fate::OutsideMap;
+        }
+        if !in_mask(setup.brush, pen) {
+            return Fate::OutsideMask;
+        }
+    }
+    held
 }
 
 // Whether the compare condition is true of a destination pixel.

@@ -17,10 +17,16 @@ pub enum Fate {
     Painted,
 }
 
-// What a position finds: whether the pattern's pixel is 1, and in a fill whether that is inside then; the source pixel; what becomes
-// of it as far as no memory tells; and where it may be painted whether the mask pixel is 0, and if not, the destination's cell and pixel.
-struct Sight {
+// What a position finds of its pattern: whether it is 1, and whether a fill is inside then.
+struct Pattern {
     one: bool,
+    inside: bool,
+}
+
+// What a position finds: its pattern and its source pixel; what becomes of it as far as no memory tells; and where it may be painted
+// whether the mask pixel is 0, and if not, the destination's cell and pixel.
+struct Sight {
+    pattern: Pattern,
     source: u32,
     foreseen: Fate,
     zero: bool,

@@ -7,12 +7,12 @@ ghost use Rattle.numbers.specs.Choose.{choose};
 ghost use Rattle.pixels.specs.Inner.{cellAt};
 ghost use Rattle.parts.specs.Drawings.{insideOf};
 ghost use Rattle.places.specs.Places.{columnOf, placeX, onMap, inMask};
-ghost use Rattle.position.specs.declared.Fate.the-variants.{Painted};
 ghost use Rattle.position.specs.Fates as fates;
 ghost use Rattle.position.specs.Within as within;
 ghost use Rattle.position.specs.Within.{Within};
-ghost use Rattle.position.specs.Inner.{patternRead, sourceRead, foreseenOf, Seen};
+ghost use Rattle.position.specs.Inner.{patternRead, sourceRead, Seen};
 use crate::Fate;
+use crate::Pattern;
 use crate::Sight;
 use crate::judge::foresee;
 use moves::Pen;
@@ -36,13 +36,16 @@ fn crosses(one: bool, drawing: Drawing) -> bool
     if one { !inside } else { inside }
 }
 
-// Whether the pattern map's pixel is 1, and in a fill whether that is inside then; true where the map is not used.
-fn pattern_read(setup: Setup, memory: &[u8], pen: Pen) -> bool
-    requires { ⌜ Within setup (length (now memory)) pen ⌝ }
+// The pattern: its map's pixel, in a fill whether that is inside then, and 1 where the map is not used.
+fn pattern_read(setup: Setup, memory: &[u8], pen: Pen) -> Pattern
+    requires { ⌜ (setup .brush .flow .fills ≡ true → setup .travel .pattern .used ≡ true) × Within setup (length (now memory)) pen ⌝ }
     ensures { λ r. ⌜ r ≡ patternRead setup (now (memory .entry)) pen ⌝ }
 {
     if !setup.travel.pattern.used {
-        return true;
+        return Pattern {
+            one: true,
+            inside: false,
+        };
     }
     let pixel = get(
         memory,
@@ -52,9 +55,16 @@ fn pattern_read(setup: Setup, memory: &[u8], pen: Pen) -> bool
     );
     let drawing = pen.drawing;
     if setup.brush.flow.fills {
-        crosses(pixel != 0, drawing)
+        let inside = crosses(pixel != 0, drawing);
+        Pattern {
+            one: inside,
+            inside,
+        }
     } else {
-        pixel != 0
+        Pattern {
+            one: pixel != 0,
+            inside: false,
+        }
     }
 }
 
@@ -105,8 +115,8 @@ fn destination_cell(setup: Setup, memory: &[u8], pen: Pen) -> Cell
 }
 
 // A sight of no destination.
-fn blank(one: bool, source: u32, foreseen: Fate, zero: bool) -> Sight
-    ensures { λ r. ⌜ (r .one ≡ one) × (r .source ≡ source) × (r .foreseen ≡ foreseen) × (r .zero ≡ zero) ⌝ }
+fn blank(pattern: Pattern, source: u32, foreseen: Fate, zero: bool) -> Sight
+    ensures { λ r. ⌜ (r .pattern ≡ pattern) × (r .source ≡ source) × (r .foreseen ≡ foreseen) × (r .zero ≡ zero) ⌝ }
 {
     let cell = Cell {
         at: 0,
@@ -115,7 +125,7 @@ fn blank(one: bool, source: u32, foreseen: Fate, zero: bool) -> Sight
         bits: 0,
     };
     Sight {
-        one,
+        pattern,
         source,
         foreseen,
         zero,
@@ -126,19 +136,19 @@ fn blank(one: bool, source: u32, foreseen: Fate, zero: bool) -> Sight
 
 // What a position finds, all of whose pixels lie in the memory.
 pub(crate) fn look(setup: Setup, memory: &[u8], pen: Pen) -> Sight
-    requires { ⌜ Within setup (length (now memory)) pen ⌝ }
+    requires { ⌜ (setup .brush .flow .fills ≡ true → setup .travel .pattern .used ≡ true) × Within setup (length (now memory)) pen ⌝ }
     ensures { λ r. ⌜ Seen setup (now (memory .entry)) pen r ⌝ }
 {
-    let one = pattern_read(setup, memory, pen);
+    let pattern = pattern_read(setup, memory, pen);
     let source = source_read(setup, memory, pen);
     let foreseen = foresee(setup, pen);
     if let Fate::Painted = foreseen {
         if is_on_zero(setup, memory, pen) {
-            return blank(one, source, foreseen, true);
+            return blank(pattern, source, foreseen, true);
         }
         let cell = destination_cell(setup, memory, pen);
         return Sight {
-            one,
+            pattern,
             source,
             foreseen,
             zero: false,
@@ -146,5 +156,5 @@ pub(crate) fn look(setup: Setup, memory: &[u8], pen: Pen) -> Sight
             pixel: value(cell),
         };
     }
-    blank(one, source, foreseen, false)
+    blank(pattern, source, foreseen, false)
 }

@@ -24,7 +24,7 @@ fn is_foreground(setup: Setup, sight: Sight) -> bool
     ensures { λ r. ⌜ ((memory : List ℕ) (pen : Pen) → Seen setup memory pen sight → r ≡ isForeground setup memory pen) ⌝ }
 {
     if setup.travel.pattern.used {
-        return sight.one;
+        return sight.pattern.one;
     }
     if setup.brush.flow.derived {
         return sight.source != 0;

@@ -25,14 +25,13 @@ pub fn run(setup: Setup, from: Pen, memory: &mut [u8], allowance: u32) -> Ran
         × (r .done ≡ after setup allowance (begun from (now (memory .entry))) .done)
         × (now (memory .exit) ≡ after setup allowance (begun from (now (memory .entry))) .memory) ⌝ }
 {
-    let travel = setup.travel;
     let mut pen = from;
     let mut done: u32 = 0;
     let first = from.drawing;
     let mut going = is_unfinished(first);
     while (done < allowance) & going {
         let inside = draw(setup, memory, pen);
-        pen = next(travel, inside, pen);
+        pen = next(setup.travel, inside, pen);
         done += 1;
         let drawing = pen.drawing;
         going = is_unfinished(drawing);

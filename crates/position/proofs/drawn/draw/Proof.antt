@@ -1,33 +1,31 @@
 -- `draw` leaves what is drawn: the fate judged of what is found is the position's, and only a painted position is written.
 use mathlib.Core.Path.{_≡_, _∙_, sym, ap}
-use mathlib.Core.Bool.{Bool, _&&_}
 use Rattle.pixels.proofs.Pixels.{cell-in-byte, cell-in-memory}
+use Rattle.position.specs.declared.Pattern.{Pattern}
 use Rattle.position.specs.declared.Fate.{Fate}
 use Rattle.position.specs.declared.Fate.the-variants.{Painted}
 use Rattle.position.specs.Fates.{fateOf}
+use Rattle.position.specs.Inner.{patternRead}
 use Rattle.position.specs.Drawn.{insideAt, drawnBy, drawn}
-use Rattle.position.proofs.Safety.{inside-read}
 use Rattle.position.proofs.Writing.{unpainted, unpainted-drawn, open-inside, painted-open}
 use borrow.Author.Needs.{needs}
 use Rattle.position.proofs.drawn.draw.Statement.{statement}
 use Rattle.position.proofs.drawn.draw.Tie as tie
 
 -- the fate that is judged is the position's
-judged : (c : tie.After-judge) → let a = c .before .before .before .before .before .before .args in
+judged : (c : tie.After-judge) → let a = c .before .before .before .before .args in
     c .judge .result ≡ fateOf (a .setup) (a .memory .now) (a .pen)
-judged c = c .judge .ensures _ _ (c .before .before .before .look .ensures)
+judged c = c .judge .ensures _ _ (c .before .look .ensures)
 
-painted : (c : tie.After-enum-told) → let a = c .before .before .before .before .before .before .before .before .args in
+painted : (c : tie.After-enum-told) → let a = c .before .before .before .before .before .before .args in
     fateOf (a .setup) (a .memory .now) (a .pen) ≡ Painted
 painted c = sym (judged (c .before .before)) ∙ c .enum-told .given .1
 
--- the bit that is read is the fill's
+-- the bit that is found is the fill's
 inside : (c : tie.After-look) → let a = c .before .before .before .args in
-    (a .setup .brush .flow .fills && c .look .result .one) ≡ insideAt (a .setup) (a .memory .now) (a .pen)
-inside c =
-    let start = c .before .before .before in
-    let s = start .args .setup in
-    ap (λ (t : Bool). s .brush .flow .fills && t) (c .look .ensures .pattern) ∙ inside-read s (start .args .memory .now) (start .args .pen) (start .pre .0)
+    c .look .result .pattern .inside ≡ insideAt (a .setup) (a .memory .now) (a .pen)
+unfolding patternRead
+inside c = ap (λ (p : Pattern). p .inside) (c .look .ensures .pattern)
 
 look-requires : tie.Need-look-requires
 look-requires c κs = search needs
@@ -40,7 +38,7 @@ enum-told c = search needs
 
 write-requires : tie.Need-write-requires
 write-requires c κs =
-    let look = c .before .before .before .before .before .before in
+    let look = c .before .before .before .before in
     let free = painted-open _ _ _ (painted (c .before)) in
     let on = open-inside _ _ (free .0) in
     let pre = look .before .before .before .pre in
@@ -54,7 +52,7 @@ returns : tie.Need-returns
 unfolding drawn
 returns c =
     let told = c .before .before .before .before in
-    let look = told .before .before .before .before .before in
+    let look = told .before .before .before in
     let a = look .before .before .before .args in
     let fate = painted told in (
       inside look,
@@ -66,7 +64,7 @@ same-length-2 c = search needs
 
 returns-2 : tie.Need-returns-2
 unfolding drawn
-returns-2 c = (inside (c .before .before .before .before), sym (unpainted-drawn _ _ _ _ (λ e. unpainted _ (c .match .keys2) (judged (c .before) ∙ e))))
+returns-2 c = (inside (c .before .before), sym (unpainted-drawn _ _ _ _ (λ e. unpainted _ (c .match .keys2) (judged (c .before) ∙ e))))
 
 pub draw-spec : {M : Type 1} → statement M
 draw-spec =

@@ -1,89 +1,61 @@
--- `foresee` is the definition: its tests are those of the definition in their order, and at each return those before have failed.
+-- `foresee` is the definition: what is held back stays so, and otherwise its tests are those of the definition in their order.
 use mathlib.Core.Path.{_≡_, _∙_, sym, ap}
-use mathlib.Core.Bool.{false, not}
-use lib.IntN.{ℤ}
-use mir.Syntax.{w32}
-use mir.ValLaws.{toZ-ofZ}
-use Rattle.places.specs.Places.{onMap, isMove, nulledBy, isNulled}
+use mathlib.Core.Bool.{not}
+use Rattle.numbers.specs.Choose.{choose}
+use Rattle.places.specs.Places.{onMap, inMask}
+use Rattle.position.specs.declared.Fate.the-variants.{OutsideMap, OutsideMask, Painted}
 use Rattle.position.specs.Inner.{foreseenOf}
+use Rattle.position.proofs.Writing.{unpainted, held-open, held-closed}
 use borrow.Author.Needs.{needs}
 use Rattle.position.proofs.judge.foresee.Statement.{statement}
 use Rattle.position.proofs.judge.foresee.Tie as tie
 
--- ---- what the tests say
+-- where nothing holds it back, the map and the mask boundary tell
+clear : (c : tie.After-enum-told) → let a = c .before .before .before .args in
+    foreseenOf (a .setup) (a .pen)
+    ≡ choose (not (onMap (a .setup .brush) (a .pen))) OutsideMap (choose (not (inMask (a .setup .brush) (a .pen))) OutsideMask Painted)
+clear c = held-open _ _ (sym (c .before .before .hold .ensures) ∙ c .enum-told .given .1)
 
-moves : (c : tie.After-is-move) → let a = c .before .before .args in isMove (a .setup .travel) (a .pen .drawing) ≡ c .is-move .result
-moves c = sym (c .is-move .ensures _ (c .before .code-in .ensures))
+-- and inside the map the mask boundary alone
+inside : (c : tie.After-in-mask) → let a = c .before .before .before .before .before .before .args in
+    foreseenOf (a .setup) (a .pen) ≡ choose (not (c .in-mask .result)) OutsideMask Painted
+inside c =
+    let on = c .before .before in
+    rw (clear (on .before), ap not (sym (on .on-map .ensures)) ∙ c .before .if1 .left, c .in-mask .ensures)
 
-nulled : (c : tie.After-is-nulled) → let a = c .before .before .before .before .before .args in isNulled (a .setup) (a .pen) ≡ c .is-nulled .result
-unfolding isNulled
-nulled c = let a = c .before .before .before .before .before .args in
-    sym (c .is-nulled .ensures
-    ∙ ap (λ (z : ℤ). nulledBy (a .setup) z (a .pen .drawing)) (toZ-ofZ w32 (a .pen .e) (search (needs, c .before .struct-told .given .1))))
+hold-requires : tie.Need-hold-requires
+hold-requires c κs = search needs
 
--- ---- what a failed test leaves
-
-unmoved : (c : tie.Else1) → let a = c .before .before .before .args in isMove (a .setup .travel) (a .pen .drawing) ≡ false
-unmoved c = moves (c .before) ∙ c .if1 .left
-
-kept : (c : tie.Else2) → let a = c .before .before .before .before .before .before .args in isNulled (a .setup) (a .pen) ≡ false
-kept c = nulled (c .before) ∙ c .if2 .left
-
-on : (c : tie.Else3) → let a = c .before .before .before .before .before .before .before .before .args in not (onMap (a .setup .brush) (a .pen)) ≡ false
-on c = ap not (sym (c .before .on-map .ensures)) ∙ c .if3 .left
-
--- ---- the needs
-
-code-in-requires : tie.Need-code-in-requires
-code-in-requires c κs = search needs
-
-is-move-requires : tie.Need-is-move-requires
-is-move-requires c κs = search needs
-
-returns : tie.Need-returns
-unfolding foreseenOf
-returns c = rw (moves (c .before) ∙ c .if1 .taken)
-
-is-nulled-requires : tie.Need-is-nulled-requires
-is-nulled-requires c κs = c .before .before .before .code-in .ensures
-
-returns-2 : tie.Need-returns-2
-unfolding foreseenOf
-returns-2 c = rw (unmoved (c .before .before .before), nulled (c .before) ∙ c .if2 .taken)
+enum-told : tie.Need-enum-told
+enum-told c = search needs
 
 on-map-requires : tie.Need-on-map-requires
 on-map-requires c κs = search needs
 
-returns-3 : tie.Need-returns-3
-unfolding foreseenOf
-returns-3 c = rw (unmoved (c .before .before .before .before .before), kept (c .before .before), ap not (sym (c .before .on-map .ensures)) ∙ c .if3 .taken)
+returns : tie.Need-returns
+returns c = rw (clear (c .before .before), ap not (sym (c .before .on-map .ensures)) ∙ c .if1 .taken)
 
 in-mask-requires : tie.Need-in-mask-requires
 in-mask-requires c κs = search needs
 
-returns-4 : tie.Need-returns-4
-unfolding foreseenOf
-returns-4 c =
-    let nulls = c .before .before .before .before in
-    rw (unmoved (nulls .before .before .before), kept nulls, on (c .before .before), ap not (sym (c .before .in-mask .ensures)) ∙ c .if4 .taken)
+returns-2 : tie.Need-returns-2
+returns-2 c = rw (inside (c .before), c .if2 .taken)
 
-returns-5 : tie.Need-returns-5
-unfolding foreseenOf
-returns-5 c =
-    let nulls = c .before .before .before .before in
-    rw (unmoved (nulls .before .before .before), kept nulls, on (c .before .before), ap not (sym (c .before .in-mask .ensures)) ∙ c .if4 .left)
+returns-3 : tie.Need-returns-3
+returns-3 c = rw (inside (c .before), c .if2 .left) (c .before .before .before .before .enum-told .given .1)
+
+returns-4 : tie.Need-returns-4
+returns-4 c = let held = c .before .hold .ensures in held ∙ sym (held-closed _ _ (λ e. unpainted _ (c .match .keys2) (held ∙ e)))
 
 pub foresee-spec : {M : Type 1} → statement M
 foresee-spec =
     tie.close
     (tie.spec
-    code-in-requires
-    is-move-requires
-    returns
-    is-nulled-requires
-    returns-2
+    hold-requires
+    enum-told
     on-map-requires
-    returns-3
+    returns
     in-mask-requires
-    returns-4
-    returns-5)
+    returns-2
+    returns-3
+    returns-4)

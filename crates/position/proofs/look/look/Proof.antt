@@ -19,7 +19,7 @@ inside : (c : tie.After-enum-told) → let a = c .before .before .before .before
 inside c =
     let start = c .before .before .before .before .before .before in
     let on = open-inside (start .args .setup) (start .args .pen) (sym (c .before .before .foresee .ensures) ∙ c .enum-told .given .1) in
-    (start .pre, on .0, on .1)
+    (start .pre .1, on .0, on .1)
 
 pattern-read-requires : tie.Need-pattern-read-requires
 pattern-read-requires c κs = search needs

@@ -4,6 +4,7 @@ use mathlib.Core.Path.{_∙_, sym, ap}
 use Prim.Native.Nat.{ℕ}
 use lib.Dec.{eqb}
 use Rattle.numbers.proofs.Choices.{choose-true, choose-false}
+use Rattle.position.specs.declared.Pattern.{Pattern}
 use Rattle.position.specs.Drawn.{isForeground}
 use Rattle.position.specs.Inner.{patternRead}
 use Rattle.position.proofs.Safety.{derived-read}
@@ -13,7 +14,7 @@ use Rattle.position.proofs.write.is_foreground.Tie as tie
 returns : tie.Need-returns
 unfolding isForeground patternRead
 returns c = λ memory pen seen.
-    seen .pattern ∙ choose-true _ _ (c .if1 .taken) ∙ sym (choose-true _ _ (c .if1 .taken))
+    ap (λ (p : Pattern). p .one) (seen .pattern) ∙ choose-true _ _ (c .if1 .taken) ∙ sym (choose-true _ _ (c .if1 .taken))
 
 returns-2 : tie.Need-returns-2
 unfolding isForeground
