@@ -7,7 +7,7 @@ use lib.IntN.{ℤ}
 use Rattle.numbers.specs.Choose.{choose}
 use Rattle.parts.specs.declared.drawing.Drawing.{Drawing}
 use Rattle.parts.specs.Drawings.{unfinished}
-use Rattle.rules.specs.Starts.{codeAt}
+use Rattle.rules.specs.Codes.{codeAt}
 use Rattle.moves.specs.declared.Turn.{Turn}
 use Rattle.moves.specs.declared.Turn.the-variants.{Stay}
 use Rattle.moves.specs.declared.Step.{Step}
@@ -43,10 +43,10 @@ module _ (s : Travel) (write : s .course .read ≡ false) where
     where
       by : {turn : Turn} {d : Drawing} → Reached s turn d → movedBy s d pen .pointers .destination .y ≡ circledBy (turnOf s (pen .e) d) 1 (pen .pointers .destination .y)
       by none = refl
-      by (line {done} steps within) = step-row (ltb done (s .dimensions .x)) (lineStep (s .course) (pen .e)) _ _ _ pen
-      by (first {count} {code}) = step-row (ltb 0 (codeAt (s .steps) count code % 16)) (codeStep (codeAt (s .steps) count code)) _ _ _ pen
+      by (line {done} steps within) = step-row (ltb done (s .figure .dimensions .x)) (lineStep (s .course) (pen .e)) _ _ _ pen
+      by (first {count} {code}) = step-row (ltb 0 (codeAt (s .figure .steps) count code % 16)) (codeStep (codeAt (s .figure .steps) count code)) _ _ _ pen
       by (next {count} {code} {done} within) =
-          step-row (ltb (done + 1) (codeAt (s .steps) count code % 16)) (codeStep (codeAt (s .steps) count code)) _ _ _ pen
+          step-row (ltb (done + 1) (codeAt (s .figure .steps) count code % 16)) (codeStep (codeAt (s .figure .steps) count code)) _ _ _ pen
 
 -- ---- the rows of a drawing
 

@@ -33,18 +33,18 @@ writes function e = by (eqb function 4) refl e
     by false f e = let same = eqb-true function 5 e in record { read = rw same; block = rw same }
 
 -- a valid record's destination is on its circle
-pub destination-on : (c : Coprocessor) → validOf c ≡ true → OnCircle (c .destination .y)
+pub destination-on : (c : Coprocessor) → validOf c ≡ true → OnCircle (c .registers .pointers .destination .y)
 unfolding validOf reducedOf pointersReduced spotReduced
-destination-on c v = destination-circle-fixed (c .destination .y) (search (v, and-left, and-right))
+destination-on c v = destination-circle-fixed (c .registers .pointers .destination .y) (search (v, and-left, and-right))
 
 -- 02, 102: a mode 11 line or code of a write form draws a position exactly if the one after it lies in the row below, or the one before it lay there
-pub drawn-by-rows : (c : Coprocessor) → validOf c ≡ true → (eqb (functionOf (c .operations)) 4 || eqb (functionOf (c .operations)) 5) ≡ true
-    → drawingMode (c .operations) ≡ 3
+pub drawn-by-rows : (c : Coprocessor) → validOf c ≡ true → (eqb (functionOf (c .registers .figure .operations)) 4 || eqb (functionOf (c .registers .figure .operations)) 5) ≡ true
+    → drawingMode (c .registers .figure .operations) ≡ 3
     → atStart (c .drawing) ≡ true
     → (n : ℕ) → unfinished (penAfter (setupOf c .travel) n (penOf c) .drawing) ≡ true
     → isNulled (setupOf c) (penAfter (setupOf c .travel) n (penOf c)) ≡ not (crosses (setupOf c .travel) (penOf c) n)
 unfolding setupOf penOf travelOf brushOf flowOf courseOf modeOf isBlock isFill
 drawn-by-rows c valid function mode start =
-    let w = writes (functionOf (c .operations)) function in
-    let eleven : modeOf (c .operations) ≡ 3 = choose-false _ _ (w .block) ∙ mode in
+    let w = writes (functionOf (c .registers .figure .operations)) function in
+    let eleven : modeOf (c .registers .figure .operations) ≡ 3 = choose-false _ _ (w .block) ∙ mode in
     boundary-drawn (setupOf c) (penOf c) eleven (eq-eqb _ 3 eleven) (w .read) start (destination-on c valid)

@@ -20,7 +20,7 @@ use Rattle.parts.specs.Reduced.{mapReduced, termReduced, termsReduced, compareR
 use Rattle.rules.specs.Operations.{isMap, isLine, isCodes, isFill, isBlock, modeOf, sourceIsColour, usesSource, usesPattern, usesMask}
 use Rattle.rules.specs.Maps.{freshMap, mapAt, formatHolds, isOneBit, endHolds, isInside}
 use Rattle.rules.specs.Rules.{isSource, isPattern, fillHolds, fieldsHold, mixesHold, usedMaps, formatsHold, endsHold, startRefusal}
-use Rattle.rules.specs.Starts.{codeAt}
+use Rattle.rules.specs.Codes.{codeAt}
 use Rattle.rules.specs.Going.{noneStopped, countersHold, pointersHold}
 use Rattle.rules.specs.Totals.{codesFrom, totalOf}
 use Rattle.moves.specs.Decoded.{signOf, courseOf, travelOf}

@@ -47,7 +47,7 @@ module _ (s : Setup) (f : Fills s) (down : s .travel .course .y ≡ Forth) (t : 
   unfolding isInside
   row-inside row p h e = rw e (and-both _ _ (le-leb 0 (s .travel .pattern .map .width) zero-le) (le-leb row (s .travel .pattern .map .height) h))
 
-  next-row : (row : ℕ) (u : Run) → row < s .travel .dimensions .y → row < s .travel .pattern .map .height → AtRow row u → AtRow (suc row) (after s (suc (s .travel .dimensions .x)) u)
+  next-row : (row : ℕ) (u : Run) → row < s .travel .figure .dimensions .y → row < s .travel .pattern .map .height → AtRow row u → AtRow (suc row) (after s (suc (s .travel .figure .dimensions .x)) u)
   unfolding turnedBy
   next-row row u another within at =
       let passed = row-after s f u row (at .drawing) (row-inside row (u .pen .pointers .pattern) (omega arith) (at .pattern)) another in
@@ -60,20 +60,20 @@ module _ (s : Setup) (f : Fills s) (down : s .travel .course .y ≡ Forth) (t : 
         pattern = passed .1 ∙ (λ i. record { x = at .pattern i .x; y = step i });
       }
 
-  at-row : (row : ℕ) → row ≤ s .travel .dimensions .y → row ≤ s .travel .pattern .map .height → AtRow row (after s (row * (s .travel .dimensions .x + 1)) t)
+  at-row : (row : ℕ) → row ≤ s .travel .figure .dimensions .y → row ≤ s .travel .pattern .map .height → AtRow row (after s (row * (s .travel .figure .dimensions .x + 1)) t)
   unfolding after
-  at-row zero h v = rw (zero-mul (s .travel .dimensions .x + 1)) (record { drawing = start; pattern = corner })
+  at-row zero h v = rw (zero-mul (s .travel .figure .dimensions .x + 1)) (record { drawing = start; pattern = corner })
   at-row (suc row) h v =
-      let wide : suc row * (s .travel .dimensions .x + 1) ≡ row * (s .travel .dimensions .x + 1) + suc (s .travel .dimensions .x) = omega arith in
-      rw (wide, after-add s (row * (s .travel .dimensions .x + 1)) (suc (s .travel .dimensions .x)) t)
-      (next-row row (after s (row * (s .travel .dimensions .x + 1)) t) (omega arith) (omega arith) (at-row row (omega arith) (omega arith)))
+      let wide : suc row * (s .travel .figure .dimensions .x + 1) ≡ row * (s .travel .figure .dimensions .x + 1) + suc (s .travel .figure .dimensions .x) = omega arith in
+      rw (wide, after-add s (row * (s .travel .figure .dimensions .x + 1)) (suc (s .travel .figure .dimensions .x)) t)
+      (next-row row (after s (row * (s .travel .figure .dimensions .x + 1)) t) (omega arith) (omega arith) (at-row row (omega arith) (omega arith)))
 
   -- 003, Area Fill: the foreground at a column and row, by the 1s of that row of the pattern
-  pub foreground-there : (x y : ℕ) → x ≤ s .travel .dimensions .x → y ≤ s .travel .dimensions .y → y ≤ s .travel .pattern .map .height
-      → isForeground s (after s (y * (s .travel .dimensions .x + 1) + x) t .memory) (after s (y * (s .travel .dimensions .x + 1) + x) t .pen)
+  pub foreground-there : (x y : ℕ) → x ≤ s .travel .figure .dimensions .x → y ≤ s .travel .figure .dimensions .y → y ≤ s .travel .pattern .map .height
+      → isForeground s (after s (y * (s .travel .figure .dimensions .x + 1) + x) t .memory) (after s (y * (s .travel .figure .dimensions .x + 1) + x) t .pen)
       ≡ isOdd (onesFrom (t .memory) (s .travel .pattern .map) (record { x = 0; y = y }) (suc x))
   foreground-there x y across h v =
-      let before : ℕ = y * (s .travel .dimensions .x + 1) in
+      let before : ℕ = y * (s .travel .figure .dimensions .x + 1) in
       let u : Run = after s before t in
       let at = at-row y h v in
       rw (after-add s before x t)

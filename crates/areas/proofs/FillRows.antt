@@ -69,16 +69,16 @@ module _ (s : Setup) (f : Fills s) where
   -- ---- the move to the next column, and past the row's end
 
   module _ (pen : Pen) (column row : ℕ) (inside : Bool) (e : pen .drawing ≡ Block inside column row) where
-    to-column : column < s .travel .dimensions .x → moved (s .travel) pen ≡ columnPassed (s .travel) (Block inside (column + 1) row) pen
+    to-column : column < s .travel .figure .dimensions .x → moved (s .travel) pen ≡ columnPassed (s .travel) (Block inside (column + 1) row) pen
     unfolding moved movedBy blockMoved
-    to-column less = ap (λ (d : Drawing). movedBy (s .travel) d pen) e ∙ choose-true _ _ (lt-ltb column (s .travel .dimensions .x) less)
+    to-column less = ap (λ (d : Drawing). movedBy (s .travel) d pen) e ∙ choose-true _ _ (lt-ltb column (s .travel .figure .dimensions .x) less)
 
-    to-row : s .travel .dimensions .x ≤ column → row < s .travel .dimensions .y → moved (s .travel) pen ≡ rowPassed (s .travel) (Block false 0 (row + 1)) pen
+    to-row : s .travel .figure .dimensions .x ≤ column → row < s .travel .figure .dimensions .y → moved (s .travel) pen ≡ rowPassed (s .travel) (Block false 0 (row + 1)) pen
     unfolding moved movedBy blockMoved
     to-row last another =
         ap (λ (d : Drawing). movedBy (s .travel) d pen) e
-        ∙ choose-false _ _ (le-ltb column (s .travel .dimensions .x) last)
-        ∙ ap (λ (d : Drawing). rowPassed (s .travel) d pen) (choose-true _ _ (lt-ltb row (s .travel .dimensions .y) another))
+        ∙ choose-false _ _ (le-ltb column (s .travel .figure .dimensions .x) last)
+        ∙ ap (λ (d : Drawing). rowPassed (s .travel) d pen) (choose-true _ _ (lt-ltb row (s .travel .figure .dimensions .y) another))
 
   column-pattern : (d : Drawing) (pen : Pen)
       → columnPassed (s .travel) d pen .pointers .pattern ≡ record { x = forth (s .travel .pattern .map .width + 1) 1 (pen .pointers .pattern .x); y = pen .pointers .pattern .y }
@@ -89,14 +89,14 @@ module _ (s : Setup) (f : Fills s) where
   row-pattern : (d : Drawing) (pen : Pen)
       → rowPassed (s .travel) d pen .pointers .pattern
       ≡ record {
-        x = turnedBy Back (s .travel .dimensions .x) (s .travel .pattern .map .width) (pen .pointers .pattern .x);
+        x = turnedBy Back (s .travel .figure .dimensions .x) (s .travel .pattern .map .width) (pen .pointers .pattern .x);
         y = turnedBy (s .travel .course .y) 1 (s .travel .pattern .map .height) (pen .pointers .pattern .y);
       }
   unfolding rowPassed rowPoint opposite
   row-pattern d pen =
       let y : ℕ = turnedBy (s .travel .course .y) 1 (s .travel .pattern .map .height) (pen .pointers .pattern .y) in
       choose-true _ _ (f .pattern)
-      ∙ (λ i. record { x = turnedBy (opposite (f .right i)) (s .travel .dimensions .x) (s .travel .pattern .map .width) (pen .pointers .pattern .x); y = y })
+      ∙ (λ i. record { x = turnedBy (opposite (f .right i)) (s .travel .figure .dimensions .x) (s .travel .pattern .map .width) (pen .pointers .pattern .x); y = y })
 
 -- ---- the columns of a row
 
@@ -142,7 +142,7 @@ module _ (s : Setup) (f : Fills s) (t : Run) (row : ℕ) (start : t .pen .drawin
   unfolding after
   positioned-at n at = stepped-on s (after s n t) (ap unfinished (at .drawing))
 
-  next-column : (n : ℕ) → n < s .travel .dimensions .x → AtColumn s t row n (after s n t) → AtColumn s t row (suc n) (positioned s (after s n t))
+  next-column : (n : ℕ) → n < s .travel .figure .dimensions .x → AtColumn s t row n (after s n t) → AtColumn s t row (suc n) (positioned s (after s n t))
   unfolding positioned crossed penWith columnPassed penStepped
   next-column n less at =
       let to = to-column s f (here n) n row (isOdd (ones s t (suc n))) (crossed-at n at) less in
@@ -157,7 +157,7 @@ module _ (s : Setup) (f : Fills s) (t : Run) (row : ℕ) (start : t .pen .drawin
         y = ap (λ (p : Point). p .y) pattern ∙ at .y;
       }
 
-  at-column : (n : ℕ) → n ≤ s .travel .dimensions .x → AtColumn s t row n (after s n t)
+  at-column : (n : ℕ) → n ≤ s .travel .figure .dimensions .x → AtColumn s t row n (after s n t)
   unfolding after isOdd onesFrom turnedBy
   at-column zero h =
       record {
@@ -168,18 +168,18 @@ module _ (s : Setup) (f : Fills s) (t : Run) (row : ℕ) (start : t .pen .drawin
   at-column (suc n) h = let at = at-column n (omega arith) in rw (positioned-at n at) (next-column n (omega arith) at)
 
   -- 003, Area Fill: in a row the foreground is picked where the 1s passed, this one with them, are odd
-  pub foreground-at : (n : ℕ) → n ≤ s .travel .dimensions .x
+  pub foreground-at : (n : ℕ) → n ≤ s .travel .figure .dimensions .x
       → isForeground s (after s n t .memory) (after s n t .pen) ≡ isOdd (onesFrom (t .memory) (s .travel .pattern .map) (t .pen .pointers .pattern) (suc n))
   foreground-at n h = foreground-here s f (after s n t) ∙ turned-at n (at-column n h)
 
   -- past its end the next row starts outside, at the pattern's first column and a row on
-  pub row-after : row < s .travel .dimensions .y
-      → (after s (suc (s .travel .dimensions .x)) t .pen .drawing ≡ Block false 0 (row + 1))
-      × (after s (suc (s .travel .dimensions .x)) t .pen .pointers .pattern
+  pub row-after : row < s .travel .figure .dimensions .y
+      → (after s (suc (s .travel .figure .dimensions .x)) t .pen .drawing ≡ Block false 0 (row + 1))
+      × (after s (suc (s .travel .figure .dimensions .x)) t .pen .pointers .pattern
       ≡ record { x = t .pen .pointers .pattern .x; y = turnedBy (s .travel .course .y) 1 (s .travel .pattern .map .height) (t .pen .pointers .pattern .y) })
   unfolding positioned crossed penWith rowPassed opposite turnedBy
   row-after another =
-      let last : ℕ = s .travel .dimensions .x in
+      let last : ℕ = s .travel .figure .dimensions .x in
       let at = at-column last (omega arith) in
       let to = to-row s f (here last) last row (isOdd (ones s t (suc last))) (crossed-at last at) (omega arith) another in
       let pattern = ap (λ (p : Pen). p .pointers .pattern) to ∙ row-pattern s f (Block false 0 (row + 1)) (here last) in

@@ -26,32 +26,32 @@ use Rattle.areas.proofs.FillRows.{Fills, foreground-at, row-after}
 
 -- ---- what the start rules say of a fill
 
-module _ (c : Coprocessor) (going : Going c) (function : functionOf (c .operations) ≡ 10) where
-  is-fill : isFill (c .operations) ≡ true
+module _ (c : Coprocessor) (going : Going c) (function : functionOf (c .registers .figure .operations) ≡ 10) where
+  is-fill : isFill (c .registers .figure .operations) ≡ true
   unfolding isFill
-  is-fill = eq-eqb (functionOf (c .operations)) 10 function
+  is-fill = eq-eqb (functionOf (c .registers .figure .operations)) 10 function
 
-  holds-fill : fillHolds (c .operations) ≡ true
+  holds-fill : fillHolds (c .registers .figure .operations) ≡ true
   unfolding startRefusalOf fieldsHold
   holds-fill =
       let fields = accepted-holds _ _ _ _ _ (going .starts) .fields in
-      asked (isFill (c .operations)) (fillHolds (c .operations)) (search (fields, and-right)) is-fill
+      asked (isFill (c .registers .figure .operations)) (fillHolds (c .registers .figure .operations)) (search (fields, and-right)) is-fill
 
-  fill-pattern : usesPattern (c .operations) ≡ true
+  fill-pattern : usesPattern (c .registers .figure .operations) ≡ true
   unfolding fillHolds
   fill-pattern = let h = holds-fill in search (h, and-left)
 
-  fill-right : octantOf (c .operations) / 4 % 2 ≡ 0
+  fill-right : octantOf (c .registers .figure .operations) / 4 % 2 ≡ 0
   unfolding fillHolds
   fill-right = let h = holds-fill in eqb-true _ 0 (search (h, and-right))
 
-  pub fill-setup : Apart (mapAt (c .maps) (patternField (c .operations))) (mapAt (c .maps) (destinationField (c .operations))) → Fills (setupOf c)
+  pub fill-setup : Apart (mapAt (c .maps) (patternField (c .registers .figure .operations))) (mapAt (c .maps) (destinationField (c .registers .figure .operations))) → Fills (setupOf c)
   unfolding setupOf travelOf brushOf flowOf courseOf signOf
   fill-setup apart = record { fills = is-fill; pattern = fill-pattern; right = rw fill-right; apart = apart }
 
-  pub pattern-inside : isInside (mapAt (c .maps) (patternField (c .operations))) (c .pattern) ≡ true
+  pub pattern-inside : isInside (mapAt (c .maps) (patternField (c .registers .figure .operations))) (c .registers .pointers .pattern) ≡ true
   unfolding pointersHold
-  pattern-inside = let h = going .pointers in asked (usesPattern (c .operations)) _ (search (h, and-right)) fill-pattern
+  pattern-inside = let h = going .pointers in asked (usesPattern (c .registers .figure .operations)) _ (search (h, and-right)) fill-pattern
 
 -- ---- a row of a fill
 
@@ -60,17 +60,17 @@ module _ (row : ℕ) (c : Coprocessor) (r : Row row c) (memory : List ℕ) where
   going = valid-going c (r .valid) (ap unfinished (r .start))
 
   -- 003, Area Fill: of a row's positions the foreground are those with an odd number of 1s from the row's first to them
-  pub row-filled : (n : ℕ) → n ≤ c .dimensions .x
-      → foregroundAfter c memory n ≡ isOdd (onesFrom memory (mapAt (c .maps) (patternField (c .operations))) (c .pattern) (suc n))
+  pub row-filled : (n : ℕ) → n ≤ c .registers .figure .dimensions .x
+      → foregroundAfter c memory n ≡ isOdd (onesFrom memory (mapAt (c .maps) (patternField (c .registers .figure .operations))) (c .registers .pointers .pattern) (suc n))
   unfolding foregroundAfter ranOf setupOf penOf travelOf begun
   row-filled n h =
       foreground-at (setupOf c) (fill-setup c going (r .function) (r .apart)) (begun (penOf c) memory) row (r .start) (pattern-inside c going (r .function)) n h
 
   -- 02, 102: the next row starts outside, with the pattern's first column again and its next row
-  pub rows-start-outside : row < c .dimensions .y
-      → (ranOf c memory (suc (c .dimensions .x)) .pen .drawing ≡ Block false 0 (row + 1))
-      × (ranOf c memory (suc (c .dimensions .x)) .pen .pointers .pattern
-      ≡ record { x = c .pattern .x; y = turnedBy (setupOf c .travel .course .y) 1 (mapAt (c .maps) (patternField (c .operations)) .height) (c .pattern .y) })
+  pub rows-start-outside : row < c .registers .figure .dimensions .y
+      → (ranOf c memory (suc (c .registers .figure .dimensions .x)) .pen .drawing ≡ Block false 0 (row + 1))
+      × (ranOf c memory (suc (c .registers .figure .dimensions .x)) .pen .pointers .pattern
+      ≡ record { x = c .registers .pointers .pattern .x; y = turnedBy (setupOf c .travel .course .y) 1 (mapAt (c .maps) (patternField (c .registers .figure .operations)) .height) (c .registers .pointers .pattern .y) })
   unfolding ranOf setupOf penOf travelOf begun
   rows-start-outside another =
       row-after (setupOf c) (fill-setup c going (r .function) (r .apart)) (begun (penOf c) memory) row (r .start) (pattern-inside c going (r .function)) another

@@ -57,7 +57,7 @@ module _ (map : Map) (f : Coprocessor) (filling : Filling map f) where
   unfolding setupOf travelOf courseOf signOf
   filling-down = rw (filling .down)
 
-  filled-there : (memory : List ℕ) (x y : ℕ) → x ≤ f .dimensions .x → y ≤ f .dimensions .y → y ≤ map .height
+  filled-there : (memory : List ℕ) (x y : ℕ) → x ≤ f .registers .figure .dimensions .x → y ≤ f .registers .figure .dimensions .y → y ≤ map .height
       → foregroundAfter f memory (positionAt f x y) ≡ isOdd (onesFrom memory map (record { x = 0; y = y }) (suc x))
   unfolding foregroundAfter ranOf setupOf penOf travelOf begun
   filled-there memory x y across h v =
@@ -70,7 +70,7 @@ pub outline-filled : (map : Map) (size : ℕ) (cs : List Coprocessor) (memory : 
     → Strokes map size cs → bitsOf (map .format) ≡ 1 → length memory ≡ size
     → ((x y : ℕ) → x ≤ map .width → y ≤ map .height → pixelAt memory map x y ≡ 0)
     → Filling map f
-    → (x y : ℕ) → x ≤ map .width → y ≤ map .height → x ≤ f .dimensions .x → y ≤ f .dimensions .y
+    → (x y : ℕ) → x ≤ map .width → y ≤ map .height → x ≤ f .registers .figure .dimensions .x → y ≤ f .registers .figure .dimensions .y
     → foregroundAfter f (outlined cs memory) (positionAt f x y) ≡ isOdd (crossingsUpTo cs x y)
 outline-filled map size cs memory f strokes one same clear filling x y h v across down =
     filled-there map f filling (outlined cs memory) x y across down v

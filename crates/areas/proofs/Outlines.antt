@@ -36,10 +36,10 @@ module _ (map : Map) (size : ℕ) (c : Coprocessor) (stroke : Stroke map size c)
   stroke-toggles : bitsOf (map .format) ≡ 1 → Toggles (setupOf c)
   unfolding setupOf travelOf brushOf flowOf courseOf edgeOf depthOf modeOf isBlock isFill usesPattern isMap
   stroke-toggles one =
-      let w = writes (functionOf (c .operations)) (stroke .function) in
-      let mode : modeOf (c .operations) ≡ 3 = choose-false _ _ (w .block) ∙ stroke .mode in
+      let w = writes (functionOf (c .registers .figure .operations)) (stroke .function) in
+      let mode : modeOf (c .registers .figure .operations) ≡ 3 = choose-false _ _ (w .block) ∙ stroke .mode in
       let bits = ap (λ (m : Map). bitsOf (m .format)) (stroke .destination) ∙ one in
-      let plane : c .planes % 2 ^ 1 % 2 ≡ 1 = omega (arith, stroke .plane) in
+      let plane : c .registers .colours .planes % 2 ^ 1 % 2 ≡ 1 = omega (arith, stroke .plane) in
       record {
         bits = bits;
         depth = bits;
@@ -54,7 +54,7 @@ module _ (map : Map) (size : ℕ) (c : Coprocessor) (stroke : Stroke map size c)
         mix = stroke .mix;
         colour = stroke .colour;
         condition = stroke .condition;
-        plane = ap (λ (n : ℕ). c .planes % 2 ^ n % 2) bits ∙ plane;
+        plane = ap (λ (n : ℕ). c .registers .colours .planes % 2 ^ n % 2) bits ∙ plane;
       }
 
   -- its map ends within the memory

@@ -13,7 +13,7 @@ use Rattle.numbers.proofs.Choices.{and-left, and-right}
 use Rattle.parts.specs.declared.drawing.Drawing.{Drawing}
 use Rattle.parts.specs.declared.drawing.Drawing.the-variants.{Nothing, Line, Codes, Block}
 use Rattle.parts.specs.Drawings.{unfinished}
-use Rattle.rules.specs.Starts.{codeAt}
+use Rattle.rules.specs.Codes.{codeAt}
 use Rattle.moves.specs.declared.Turn.{Turn}
 use Rattle.moves.specs.declared.Turn.the-variants.{Stay, Forth, Back}
 use Rattle.moves.specs.declared.Step.{Step}
@@ -30,19 +30,19 @@ use Rattle.areas.proofs.Rows.{goesDown}
 -- how the row of a position of a line or codes goes to the next one's
 unfoldable pub turnOf : Travel → ℤ → Drawing → Turn
 turnOf s e (Nothing stopped) = Stay
-turnOf s e (Line rose done) = choose (ltb done (s .dimensions .x)) (lineStep (s .course) e .y) Stay
-turnOf s e (Codes count code done) = choose (ltb done (codeAt (s .steps) count code % 16)) (codeStep (codeAt (s .steps) count code) .y) Stay
+turnOf s e (Line rose done) = choose (ltb done (s .figure .dimensions .x)) (lineStep (s .course) e .y) Stay
+turnOf s e (Codes count code done) = choose (ltb done (codeAt (s .figure .steps) count code % 16)) (codeStep (codeAt (s .figure .steps) count code) .y) Stay
 turnOf s e (Block inside column row) = Stay
 
 -- a position of a line or codes, or none, and the turn that led to it: none to the first, along the line's way in Y or level to the next of a line, the
 -- code's to the next of a code, and none from code to code
 pub data Reached (s : Travel) : Turn → Drawing → Type 0 where
   none : {turn : Turn} {stopped : Bool} → Reached s turn (Nothing stopped)
-  line : {done : ℕ} (steps : Bool) → done ≤ s .dimensions .x
+  line : {done : ℕ} (steps : Bool) → done ≤ s .figure .dimensions .x
       → Reached s (choose steps (s .course .y) Stay) (Line (goesUp (choose steps (s .course .y) Stay)) done)
   first : {count code : ℕ} → Reached s Stay (Codes count code 0)
-  next : {count code done : ℕ} → done < codeAt (s .steps) count code % 16
-      → Reached s (codeStep (codeAt (s .steps) count code) .y) (Codes count code (done + 1))
+  next : {count code done : ℕ} → done < codeAt (s .figure .steps) count code % 16
+      → Reached s (codeStep (codeAt (s .figure .steps) count code) .y) (Codes count code (done + 1))
 
 module _ (s : Travel) where
   pub start-reached : (d : Drawing) → atStart d ≡ true → Reached s Stay d
@@ -74,9 +74,9 @@ module _ (s : Travel) where
       by false steep = refl
 
   code-reached : (count code done : ℕ)
-      → Reached s (turnOf s (pos 0) (Codes count code done)) (drawingAfter (s .dimensions) (s .steps) false (Codes count code done))
+      → Reached s (turnOf s (pos 0) (Codes count code done)) (drawingAfter (s .figure) false (Codes count code done))
   unfolding turnOf drawingAfter codePassed
-  code-reached count code done = by (ltb done (codeAt (s .steps) count code % 16)) refl
+  code-reached count code done = by (ltb done (codeAt (s .figure .steps) count code % 16)) refl
     where
       passed : (more stops : Bool)
           → Reached s Stay (choose more (choose stops (Nothing true) (Codes count (code + 1) 0)) (Nothing false))
@@ -84,11 +84,11 @@ module _ (s : Travel) where
       passed true false = first
       passed false stops = none
 
-      by : (t : Bool) → ltb done (codeAt (s .steps) count code % 16) ≡ t
-          → Reached s (choose t (codeStep (codeAt (s .steps) count code) .y) Stay)
-          (choose t (Codes count code (done + 1)) (codePassed (s .steps) count code))
-      by true less = next (ltb-true done (codeAt (s .steps) count code % 16) less)
-      by false more = passed (ltb (code + 1) count) (eqb (codeAt (s .steps) count (code + 1)) 0)
+      by : (t : Bool) → ltb done (codeAt (s .figure .steps) count code % 16) ≡ t
+          → Reached s (choose t (codeStep (codeAt (s .figure .steps) count code) .y) Stay)
+          (choose t (Codes count code (done + 1)) (codePassed (s .figure .steps) count code))
+      by true less = next (ltb-true done (codeAt (s .figure .steps) count code % 16) less)
+      by false more = passed (ltb (code + 1) count) (eqb (codeAt (s .figure .steps) count (code + 1)) 0)
 
   module _ (bounds : s .course .bounds ≡ true) where
     line-bit : (e : ℤ) → rises s e ≡ goesUp (lineStep (s .course) e .y)
@@ -97,14 +97,14 @@ module _ (s : Travel) where
 
     -- so is the position after it
     pub next-reached : (e : ℤ) {turn : Turn} {d : Drawing} → Reached s turn d
-        → Reached s (turnOf s e d) (drawingAfter (s .dimensions) (s .steps) (rises s e) d)
+        → Reached s (turnOf s e d) (drawingAfter (s .figure) (rises s e) d)
     unfolding turnOf drawingAfter
     next-reached e none = none
-    next-reached e (line {done} steps within) = by (ltb done (s .dimensions .x)) refl
+    next-reached e (line {done} steps within) = by (ltb done (s .figure .dimensions .x)) refl
       where
-        by : (t : Bool) → ltb done (s .dimensions .x) ≡ t
+        by : (t : Bool) → ltb done (s .figure .dimensions .x) ≡ t
             → Reached s (choose t (lineStep (s .course) e .y) Stay) (choose t (Line (rises s e) (done + 1)) (Nothing false))
-        by true less = rw (line-bit e, line-turn e) (line {done = done + 1} (along e) (omega (arith, ltb-true done (s .dimensions .x) less)))
+        by true less = rw (line-bit e, line-turn e) (line {done = done + 1} (along e) (omega (arith, ltb-true done (s .figure .dimensions .x) less)))
         by false more = none
     next-reached e (first {count} {code}) = code-reached count code 0
     next-reached e (next {count} {code} {done} within) = code-reached count code (done + 1)
@@ -173,9 +173,9 @@ module _ (s : Travel) where
   unfolding turnOf onBoundary isFirst isLast goesUp
   boundary-turns e none going = absurd (false≢true going)
   boundary-turns e (line {done} steps within) going =
-      rw (line-turn s e, another done (s .dimensions .x) within) (line-run (s .course .y) steps (along s e) (eqb done (s .dimensions .x)))
+      rw (line-turn s e, another done (s .figure .dimensions .x) within) (line-run (s .course .y) steps (along s e) (eqb done (s .figure .dimensions .x)))
   boundary-turns e (first {count} {code}) going =
-      rw (another 0 (codeAt (s .steps) count code % 16) zero-le) (code-first _ (eqb 0 (codeAt (s .steps) count code % 16)))
+      rw (another 0 (codeAt (s .figure .steps) count code % 16) zero-le) (code-first _ (eqb 0 (codeAt (s .figure .steps) count code % 16)))
   boundary-turns e (next {count} {code} {done} within) going =
-      rw (another (done + 1) (codeAt (s .steps) count code % 16) (omega arith), ne-eqb (done + 1) 0 (omega arith))
-      (code-next _ (eqb (done + 1) (codeAt (s .steps) count code % 16)))
+      rw (another (done + 1) (codeAt (s .figure .steps) count code % 16) (omega arith), ne-eqb (done + 1) 0 (omega arith))
+      (code-next _ (eqb (done + 1) (codeAt (s .figure .steps) count code % 16)))

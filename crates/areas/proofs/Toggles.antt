@@ -42,9 +42,9 @@ pub record Toggles (s : Setup) : Type 0 where
   pub pattern : s .travel .pattern .used ≡ false
   pub derived : s .brush .flow .derived ≡ false
   pub source : s .brush .flow .foreground ≡ false
-  pub mix : s .brush .inks .foreground .mix ≡ 6
-  pub colour : s .brush .inks .foreground .colour % 2 ≡ 1
-  pub condition : s .brush .inks .compare .condition ≡ 4
+  pub mix : s .brush .colours .foreground .mix ≡ 6
+  pub colour : s .brush .colours .foreground .colour % 2 ≡ 1
+  pub condition : s .brush .colours .compare .condition ≡ 4
   pub plane : s .brush .depth .planes % 2 ≡ 1
 
 -- ---- the mix
@@ -78,11 +78,11 @@ module _ (s : Setup) (t : Toggles s) (memory : List ℕ) (pen : Pen) where
   unfolding isForeground
   foreground = choose-false _ _ (t .pattern) ∙ choose-false _ _ (t .derived)
 
-  ink : inkOf s memory pen ≡ s .brush .inks .foreground
+  ink : inkOf s memory pen ≡ s .brush .colours .foreground
   unfolding inkOf
   ink = choose-true _ _ foreground
 
-  colour-picked : picked s memory pen ≡ s .brush .inks .foreground .colour
+  colour-picked : picked s memory pen ≡ s .brush .colours .foreground .colour
   unfolding picked
   colour-picked = choose-false _ _ (choose-true _ _ foreground ∙ t .source) ∙ ap (λ (i : Ink). i .colour) ink
 
@@ -93,7 +93,7 @@ module _ (s : Setup) (t : Toggles s) (memory : List ℕ) (pen : Pen) where
       let old : ℕ = destinationPixel (s .brush) memory pen in
       ap (λ (n : ℕ). mixed n (inkOf s memory pen .mix) planes (picked s memory pen) old) (t .depth)
       ∙ ap₂ (λ code c. mixed 1 code planes c old) (ap (λ (i : Ink). i .mix) ink ∙ t .mix) colour-picked
-      ∙ xor-one planes (s .brush .inks .foreground .colour) old (t .plane) (t .colour)
+      ∙ xor-one planes (s .brush .colours .foreground .colour) old (t .plane) (t .colour)
 
   -- ---- what keeps a position back
 

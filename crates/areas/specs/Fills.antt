@@ -30,9 +30,9 @@ Apart a b = (x y x' y' : ℕ) → x ≤ a .width → y ≤ a .height → x' ≤ 
 -- 02, 102: a fill, at the first position of a row, whose pattern map shares no byte with its destination map
 pub record Row (row : ℕ) (c : Coprocessor) : Type 0 where
   pub valid : validOf c ≡ true
-  pub function : functionOf (c .operations) ≡ 10
+  pub function : functionOf (c .registers .figure .operations) ≡ 10
   pub start : c .drawing ≡ Block false 0 row
-  pub apart : Apart (mapAt (c .maps) (patternField (c .operations))) (mapAt (c .maps) (destinationField (c .operations)))
+  pub apart : Apart (mapAt (c .maps) (patternField (c .registers .figure .operations))) (mapAt (c .maps) (destinationField (c .registers .figure .operations)))
 
 -- 01, One position: whether the position after n is foreground
 unfoldable pub foregroundAfter : Coprocessor → List ℕ → ℕ → Bool
@@ -46,16 +46,16 @@ onesFrom memory map p (suc n) = onesFrom memory map p n + choose (eqb (pixelAt m
 -- 02, 102: a fill with this map as pattern, from its corner down, just started
 pub record Filling (map : Map) (c : Coprocessor) : Type 0 where
   pub valid : validOf c ≡ true
-  pub function : functionOf (c .operations) ≡ 10
+  pub function : functionOf (c .registers .figure .operations) ≡ 10
   pub start : c .drawing ≡ Block false 0 0
-  pub pattern : mapAt (c .maps) (patternField (c .operations)) ≡ map
-  pub corner : c .pattern ≡ record { x = 0; y = 0 }
-  pub down : octantOf (c .operations) / 2 % 2 ≡ 0
-  pub apart : Apart map (mapAt (c .maps) (destinationField (c .operations)))
+  pub pattern : mapAt (c .maps) (patternField (c .registers .figure .operations)) ≡ map
+  pub corner : c .registers .pointers .pattern ≡ record { x = 0; y = 0 }
+  pub down : octantOf (c .registers .figure .operations) / 2 % 2 ≡ 0
+  pub apart : Apart map (mapAt (c .maps) (destinationField (c .registers .figure .operations)))
 
 -- 01, The functions, PxBlt: the position at this column and row of a block
 abbrev pub positionAt : Coprocessor → ℕ → ℕ → ℕ
-positionAt c column row = row * (c .dimensions .x + 1) + column
+positionAt c column row = row * (c .registers .figure .dimensions .x + 1) + column
 
 -- 02, 102: the crossings of an outline at this column of a row and left of it
 unfoldable pub crossingsUpTo : List Coprocessor → ℕ → ℕ → ℕ

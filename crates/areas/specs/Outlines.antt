@@ -28,16 +28,16 @@ pub record Stroke (map : Map) (size : ℕ) (c : Coprocessor) : Type 0 where
   pub valid : validOf c ≡ true
   pub memory : c .size ≡ size
   pub start : atStart (c .drawing) ≡ true
-  pub function : (eqb (functionOf (c .operations)) 4 || eqb (functionOf (c .operations)) 5) ≡ true
-  pub mode : drawingMode (c .operations) ≡ 3
-  pub mask : maskMode (c .operations) ≡ 0
-  pub pattern : patternField (c .operations) ≡ 8
-  pub source : foregroundSource (c .operations) ≡ 0
-  pub destination : mapAt (c .maps) (destinationField (c .operations)) ≡ map
-  pub mix : c .foreground .mix ≡ 6
-  pub colour : c .foreground .colour % 2 ≡ 1
-  pub condition : c .compare .condition ≡ 4
-  pub plane : c .planes % 2 ≡ 1
+  pub function : (eqb (functionOf (c .registers .figure .operations)) 4 || eqb (functionOf (c .registers .figure .operations)) 5) ≡ true
+  pub mode : drawingMode (c .registers .figure .operations) ≡ 3
+  pub mask : maskMode (c .registers .figure .operations) ≡ 0
+  pub pattern : patternField (c .registers .figure .operations) ≡ 8
+  pub source : foregroundSource (c .registers .figure .operations) ≡ 0
+  pub destination : mapAt (c .maps) (destinationField (c .registers .figure .operations)) ≡ map
+  pub mix : c .registers .colours .foreground .mix ≡ 6
+  pub colour : c .registers .colours .foreground .colour % 2 ≡ 1
+  pub condition : c .registers .colours .compare .condition ≡ 4
+  pub plane : c .registers .colours .planes % 2 ≡ 1
 
 -- 02, 102: each of these is a stroke
 pub data Strokes (map : Map) (size : ℕ) : List Coprocessor → Type 0 where
@@ -46,7 +46,7 @@ pub data Strokes (map : Map) (size : ℕ) : List Coprocessor → Type 0 where
 
 -- 01, The functions: all positions of a drawing
 abbrev pub wholeOf : Coprocessor → ℕ
-wholeOf c = totalOf (c .dimensions) (c .steps) (c .drawing)
+wholeOf c = totalOf (c .registers .figure) (c .drawing)
 
 -- 02, 102: the memory after each was run to its end, the first first
 unfoldable pub outlined : List Coprocessor → List ℕ → List ℕ
