@@ -6,7 +6,7 @@ use lib.Dec.{eqb}
 use borrow.Author.Tests.{eqb-true, eq-eqb}
 use Rattle.numbers.proofs.Choices.{choose-false, and-left, and-right}
 use Rattle.parts.specs.Drawings.{unfinished}
-use Rattle.parts.specs.Reduced.{spotReduced}
+use Rattle.parts.specs.Reduced.{spotReduced, pointersReduced, registersReduced}
 use Rattle.parts.proofs.ReducedLaws.{destination-circle-fixed}
 use Rattle.rules.specs.Operations.{functionOf, drawingMode, isFill, isBlock, modeOf}
 use Rattle.moves.specs.Decoded.{courseOf, travelOf}
@@ -14,7 +14,7 @@ use Rattle.places.specs.Decoded.{flowOf, brushOf}
 use Rattle.moves.proofs.CircledLaws.{OnCircle}
 use Rattle.places.specs.Places.{isNulled}
 use Rattle.coprocessor.specs.declared.Coprocessor.{Coprocessor}
-use Rattle.coprocessor.specs.Valid.{pointersReduced, reducedOf, validOf}
+use Rattle.coprocessor.specs.Valid.{reducedOf, validOf}
 use Rattle.coprocessor.specs.Runs.{setupOf, penOf}
 use Rattle.areas.specs.Crossings.{penAfter, crosses}
 use Rattle.areas.specs.Outlines.{atStart}
@@ -34,7 +34,7 @@ writes function e = by (eqb function 4) refl e
 
 -- a valid record's destination is on its circle
 pub destination-on : (c : Coprocessor) → validOf c ≡ true → OnCircle (c .registers .pointers .destination .y)
-unfolding validOf reducedOf pointersReduced spotReduced
+unfolding validOf reducedOf registersReduced pointersReduced spotReduced
 destination-on c v = destination-circle-fixed (c .registers .pointers .destination .y) (search (v, and-left, and-right))
 
 -- 02, 102: a mode 11 line or code of a write form draws a position exactly if the one after it lies in the row below, or the one before it lay there

@@ -6,64 +6,67 @@ use Prim.Native.Nat.{ℕ}
 use native.Mathlib.Omega.{arith}
 use lib.IntN.{ℤ, pos, negsuc}
 use Rattle.numbers.specs.Bytes.{byteOf}
-use Rattle.numbers.specs.Circles.{forth, back, residue, circle}
+use Rattle.numbers.specs.Circles.{back, circle, forth, residue}
 use Rattle.numbers.specs.Fields.{field, withField}
-use Rattle.pixels.specs.declared.Map.{Map}
-use Rattle.pixels.specs.Maps.{bitsOf, startOf, placeOf, shiftOf, neededOf}
+use Rattle.mixes.specs.Conditions.{conditionHolds, holdsOf}
+use Rattle.mixes.specs.Mixes.{depthOf, gathered, logical, merged, mixed, tableBit}
+use Rattle.pixels.specs.Maps.{bitsOf, neededOf, placeOf, shiftOf, startOf}
 use Rattle.pixels.specs.Pixels.{byteAt, pixelAt, withPixel}
-use Rattle.mixes.specs.Mixes.{depthOf, tableBit, logical, gathered, merged, mixed}
-use Rattle.mixes.specs.Conditions.{holdsOf, conditionHolds}
+use Rattle.pixels.specs.declared.Map.{Map}
+use Rattle.parts.specs.Drawings.{insideOf, withInside}
+use Rattle.parts.specs.Fresh.{noPoint}
+use Rattle.parts.specs.Reduced.{coloursReduced, destinationReduced, figureReduced, mapReduced, pointReduced, pointersReduced, registersReduced}
+use Rattle.parts.specs.Reduced.{spotReduced, termReduced, termsReduced}
 use Rattle.parts.specs.declared.drawing.Drawing.{Drawing}
 use Rattle.parts.specs.declared.drawing.Drawing.the-variants.{Line, Codes, Block}
-use Rattle.parts.specs.Drawings.{insideOf, withInside}
-use Rattle.parts.specs.Reduced.{mapReduced, termReduced, termsReduced, compareReduced, pointReduced, destinationReduced, spotReduced}
-use Rattle.rules.specs.Operations.{isMap, isLine, isCodes, isFill, isBlock, modeOf, sourceIsColour, usesSource, usesPattern, usesMask}
-use Rattle.rules.specs.Maps.{freshMap, mapAt, formatHolds, isOneBit, endHolds, isInside}
-use Rattle.rules.specs.Rules.{isSource, isPattern, fillHolds, fieldsHold, mixesHold, usedMaps, formatsHold, endsHold, startRefusal}
-use Rattle.rules.specs.Codes.{codeAt}
-use Rattle.rules.specs.Going.{noneStopped, countersHold, pointersHold}
-use Rattle.rules.specs.Totals.{codesFrom, totalOf}
-use Rattle.moves.specs.Decoded.{signOf, courseOf, travelOf}
-use Rattle.places.specs.Decoded.{edgeOf, flowOf, brushOf}
-use Rattle.moves.specs.Turns.{opposite, turnedBy, circledBy, pointStepped, spotStepped}
-use Rattle.moves.specs.Steps.{lineStep, codeStep, movesRow, goesUp}
-use Rattle.moves.specs.Moves.{sourceBy, destinationBy, penStepped, penWith, penGone, lineError, rises, lineMoved, codePassed, codesMoved}
-use Rattle.moves.specs.Moves.{columnPassed, rowPoint, rowSpot, rowPassed, blockMoved, movedBy, moved}
-use Rattle.places.specs.Places.{isWithin, columnOf, placeX, onMap, inMask, isMove, isFirst, isLast, ofRun, onBoundary, nulledBy, isNulled}
-use Rattle.position.specs.Fates.{destinationPixel, onZero, isCompared, fateOf}
-use Rattle.position.specs.Drawn.{sourcePixel, isOne, insideAt, crossed, isForeground, inkOf, picked, mixedPixel, drawnBy, drawn}
-use Rattle.runs.specs.Runs.{begun, positioned, stepped, after}
-use Rattle.coprocessor.specs.declared.Coprocessor.{Coprocessor}
+use Rattle.rules.specs.Codes.{codeAt, codesFrom, noneStopped}
+use Rattle.rules.specs.Going.{countersHold, pointersHold}
+use Rattle.rules.specs.Maps.{freshMap, endHolds, formatHolds, isInside, isOneBit, mapAt}
+use Rattle.rules.specs.Operations.{isBlock, isCodes, isFill, isLine, isMap, modeOf, sourceIsColour, usesMask, usesPattern, usesSource}
+use Rattle.rules.specs.Rules.{endsHold, fieldsHold, fillHolds, formatsHold, isPattern, isSource, mixesHold, startRefusal, usedMaps}
+use Rattle.rules.specs.Totals.{totalOf}
+use Rattle.moves.specs.Decoded.{courseOf, signOf, travelOf}
+use Rattle.moves.specs.Moves.{blockMoved, codePassed, codesMoved, columnPassed, destinationBy, lineError, lineMoved, moved, movedBy, penGone}
+use Rattle.moves.specs.Moves.{penStepped, penWith, rises, rowPassed, rowPoint, rowSpot, sourceBy}
+use Rattle.moves.specs.Steps.{codeStep, goesUp, lineStep, movesRow}
+use Rattle.moves.specs.Turns.{circledBy, opposite, pointStepped, spotStepped, turnedBy}
+use Rattle.places.specs.Decoded.{brushOf, edgeOf, flowOf}
+use Rattle.places.specs.Places.{columnOf, inMask, isFirst, isLast, isMove, isNulled, isWithin, nulledBy, ofRun, onBoundary, onMap, placeX}
+use Rattle.position.specs.Drawn.{crossed, drawn, drawnBy, inkOf, insideAt, isForeground, isOne, mixedPixel, picked, sourcePixel}
+use Rattle.position.specs.Fates.{destinationPixel, fateOf, isCompared, onZero}
+use Rattle.runs.specs.Runs.{after, begun, positioned, stepped}
 use Rattle.coprocessor.specs.Fresh.{sizeHolds}
-use Rattle.coprocessor.specs.Valid.{startRefusalOf, mapsReduced, pointersReduced, reducedOf, goesOn, validOf}
-use Rattle.coprocessor.specs.Runs.{setupOf, penOf, ranOf, runRefusal, runMemory}
-use Rattle.areas.specs.Crossings.{penAfter, below, samePlace, crosses, crossesAt, crossings}
-use Rattle.areas.specs.Outlines.{Strokes, none, more, atStart, outlined, crossingsOf}
-use Rattle.areas.specs.Fills.{isOdd, Apart, foregroundAfter, Filling, positionAt, crossingsUpTo}
+use Rattle.coprocessor.specs.Runs.{penOf, ranOf, runMemory, runRefusal, setupOf}
+use Rattle.coprocessor.specs.Valid.{goesOn, mapsReduced, reducedOf, startRefusalOf, validOf}
+use Rattle.coprocessor.specs.declared.Coprocessor.{Coprocessor}
+use Rattle.areas.specs.Crossings.{below, crosses, crossesAt, crossings, penAfter, samePlace}
+use Rattle.areas.specs.Fills.{Filling, positionAt, Apart, crossingsUpTo, foregroundAfter, isOdd}
+use Rattle.areas.specs.Outlines.{Strokes, none, more, atStart, crossingsOf, outlined}
 
 -- two maps of eight by eight pixels, one behind the other: the outline's and the picture's
 abbrev eight : ℕ → Map
 eight base = record { base = base; width = 7; height = 7; format = 0 }
 
-abbrev drawing : ℕ → ℕ → ℤ → ℤ → Drawing → Coprocessor
+abbrev drawing : (operations steps : ℕ) (x y : ℤ) → Drawing → Coprocessor
 drawing operations steps x y d =
     record {
       size = 16;
-      index = 0;
       maps = freshMap ∷ eight 0 ∷ eight 8 ∷ freshMap ∷ [];
-      terms = record { e = negsuc 0; k1 = pos 0; k2 = pos 0 };
-      steps = steps;
-      foreground = record { mix = 6; colour = 1 };
-      background = record { mix = 5; colour = 0 };
-      compare = record { condition = 4; value = 0 };
-      planes = 1;
-      carries = 0;
-      dimensions = record { x = 4; y = 4 };
-      origin = record { x = 0; y = 0 };
-      source = record { x = 0; y = 0 };
-      pattern = record { x = 0; y = 0 };
-      destination = record { x = x; y = y };
-      operations = operations;
+      registers =
+          record {
+            index = 0;
+            terms = record { e = negsuc 0; k1 = pos 0; k2 = pos 0 };
+            colours =
+                record {
+                  foreground = record { mix = 6; colour = 1 };
+                  background = record { mix = 5; colour = 0 };
+                  compare = record { condition = 4; value = 0 };
+                  planes = 1;
+                  carries = 0;
+                };
+            figure = record { operations = operations; steps = steps; dimensions = record { x = 4; y = 4 }; origin = noPoint };
+            pointers = record { source = noPoint; pattern = noPoint; destination = record { x = x; y = y } };
+          };
       drawing = d;
     }
 
@@ -88,10 +91,10 @@ zeros = 0 ∷ 0 ∷ 0 ∷ 0 ∷ 0 ∷ 0 ∷ 0 ∷ 0 ∷ 0 ∷ 0 ∷ 0 ∷ 0 ∷ 
 -- ---- they are as the theorems ask
 
 valid : (validOf left ≡ true) × (validOf right ≡ true) × (validOf fill ≡ true)
-unfolding mapReduced termReduced termsReduced compareReduced pointReduced destinationReduced spotReduced isMap isLine isCodes isFill isBlock modeOf
-    sourceIsColour usesSource usesPattern usesMask mapAt formatHolds isOneBit endHolds isInside isSource isPattern fillHolds fieldsHold mixesHold usedMaps
-    formatsHold endsHold startRefusal codeAt noneStopped countersHold pointersHold sizeHolds startRefusalOf mapsReduced pointersReduced reducedOf goesOn
-    validOf bitsOf neededOf byteOf
+unfolding mapReduced termReduced termsReduced pointReduced destinationReduced spotReduced isMap isLine isCodes isFill isBlock modeOf sourceIsColour
+    usesSource usesPattern usesMask mapAt formatHolds isOneBit endHolds isInside isSource isPattern fillHolds fieldsHold mixesHold usedMaps
+    formatsHold endsHold startRefusal codeAt noneStopped countersHold pointersHold sizeHolds startRefusalOf mapsReduced pointersReduced
+    reducedOf goesOn validOf bitsOf neededOf byteOf coloursReduced figureReduced registersReduced
 valid = (refl, refl, refl)
 
 -- no byte of one map is of the other
@@ -159,13 +162,15 @@ pub example-area : (filledRow 0 ≡ fiveOf (λ x. false))
     × (oddRow 0 ≡ fiveOf (λ x. false))
     × (oddRow 1 ≡ true ∷ true ∷ true ∷ false ∷ false ∷ [])
     × (oddRow 4 ≡ true ∷ true ∷ true ∷ false ∷ false ∷ [])
-unfolding byteOf forth back residue circle field withField bitsOf startOf placeOf shiftOf neededOf byteAt pixelAt withPixel tableBit logical gathered merged
-    mixed holdsOf conditionHolds insideOf withInside mapReduced termReduced termsReduced compareReduced pointReduced destinationReduced spotReduced isMap
-    isLine isCodes isFill isBlock modeOf sourceIsColour usesSource usesPattern usesMask mapAt formatHolds isOneBit endHolds isInside isSource isPattern
-    fillHolds fieldsHold mixesHold usedMaps formatsHold endsHold startRefusal codeAt noneStopped countersHold pointersHold codesFrom totalOf signOf courseOf
-    travelOf flowOf edgeOf depthOf brushOf opposite turnedBy circledBy pointStepped spotStepped lineStep codeStep movesRow goesUp sourceBy destinationBy penStepped penWith penGone lineError
-    rises lineMoved codePassed codesMoved columnPassed rowPoint rowSpot rowPassed blockMoved movedBy moved isWithin columnOf placeX onMap inMask isMove
-    isFirst isLast ofRun onBoundary nulledBy isNulled destinationPixel onZero isCompared fateOf sourcePixel isOne insideAt crossed isForeground inkOf picked mixedPixel
-    drawnBy drawn begun positioned stepped after sizeHolds startRefusalOf mapsReduced pointersReduced reducedOf goesOn validOf setupOf penOf ranOf runRefusal
+unfolding byteOf forth back residue circle field withField bitsOf startOf placeOf shiftOf neededOf byteAt pixelAt withPixel tableBit logical gathered
+    merged mixed holdsOf conditionHolds insideOf withInside mapReduced termReduced termsReduced pointReduced destinationReduced spotReduced
+    isMap isLine isCodes isFill isBlock modeOf sourceIsColour usesSource usesPattern usesMask mapAt formatHolds isOneBit endHolds isInside
+    isSource isPattern fillHolds fieldsHold mixesHold usedMaps formatsHold endsHold startRefusal codeAt noneStopped countersHold pointersHold
+    codesFrom totalOf signOf courseOf travelOf flowOf edgeOf depthOf brushOf opposite turnedBy circledBy pointStepped spotStepped lineStep
+    codeStep movesRow goesUp sourceBy destinationBy penStepped penWith penGone lineError rises lineMoved codePassed codesMoved columnPassed
+    rowPoint rowSpot rowPassed blockMoved movedBy moved isWithin columnOf placeX onMap inMask isMove isFirst isLast ofRun onBoundary nulledBy
+    isNulled destinationPixel onZero isCompared fateOf sourcePixel isOne insideAt crossed isForeground inkOf picked mixedPixel drawnBy drawn
+    begun positioned stepped after sizeHolds startRefusalOf mapsReduced pointersReduced reducedOf goesOn validOf setupOf penOf ranOf runRefusal
     runMemory penAfter below samePlace crosses crossesAt crossings atStart outlined crossingsOf isOdd foregroundAfter crossingsUpTo
+    coloursReduced figureReduced registersReduced
 example-area = (refl, refl, refl, refl, refl, refl)

@@ -27,31 +27,35 @@ use Rattle.areas.proofs.FillRows.{Fills, foreground-at, row-after}
 -- ---- what the start rules say of a fill
 
 module _ (c : Coprocessor) (going : Going c) (function : functionOf (c .registers .figure .operations) ≡ 10) where
-  is-fill : isFill (c .registers .figure .operations) ≡ true
-  unfolding isFill
-  is-fill = eq-eqb (functionOf (c .registers .figure .operations)) 10 function
+  -- the fill's pixel operations
+  abbrev operations : ℕ
+  operations = c .registers .figure .operations
 
-  holds-fill : fillHolds (c .registers .figure .operations) ≡ true
+  is-fill : isFill operations ≡ true
+  unfolding isFill
+  is-fill = eq-eqb (functionOf operations) 10 function
+
+  holds-fill : fillHolds operations ≡ true
   unfolding startRefusalOf fieldsHold
   holds-fill =
-      let fields = accepted-holds _ _ _ _ _ (going .starts) .fields in
-      asked (isFill (c .registers .figure .operations)) (fillHolds (c .registers .figure .operations)) (search (fields, and-right)) is-fill
+      let fields = accepted-holds _ _ _ (going .starts) .fields in
+      asked (isFill operations) (fillHolds operations) (search (fields, and-right)) is-fill
 
-  fill-pattern : usesPattern (c .registers .figure .operations) ≡ true
+  fill-pattern : usesPattern operations ≡ true
   unfolding fillHolds
   fill-pattern = let h = holds-fill in search (h, and-left)
 
-  fill-right : octantOf (c .registers .figure .operations) / 4 % 2 ≡ 0
+  fill-right : octantOf operations / 4 % 2 ≡ 0
   unfolding fillHolds
   fill-right = let h = holds-fill in eqb-true _ 0 (search (h, and-right))
 
-  pub fill-setup : Apart (mapAt (c .maps) (patternField (c .registers .figure .operations))) (mapAt (c .maps) (destinationField (c .registers .figure .operations))) → Fills (setupOf c)
+  pub fill-setup : Apart (mapAt (c .maps) (patternField operations)) (mapAt (c .maps) (destinationField operations)) → Fills (setupOf c)
   unfolding setupOf travelOf brushOf flowOf courseOf signOf
   fill-setup apart = record { fills = is-fill; pattern = fill-pattern; right = rw fill-right; apart = apart }
 
-  pub pattern-inside : isInside (mapAt (c .maps) (patternField (c .registers .figure .operations))) (c .registers .pointers .pattern) ≡ true
+  pub pattern-inside : isInside (mapAt (c .maps) (patternField operations)) (c .registers .pointers .pattern) ≡ true
   unfolding pointersHold
-  pattern-inside = let h = going .pointers in asked (usesPattern (c .registers .figure .operations)) _ (search (h, and-right)) fill-pattern
+  pattern-inside = let h = going .pointers in asked (usesPattern operations) _ (search (h, and-right)) fill-pattern
 
 -- ---- a row of a fill
 
