@@ -1,10 +1,7 @@
 // The coprocessor for C and Rust: each call works on a state image of 115 bytes that the caller owns, and asks once whether it is valid.
 ghost use mathlib.Core.Path.{_≡_};
-ghost use Rattle.coprocessor.specs.Fresh.{freshAnswer};
-ghost use Rattle.coprocessor.specs.Images.{loadAnswer};
 ghost use Rattle.board.specs.Calls.{callAnswer, freshNumber, freshImage, writeNumber, writeImage, readNumber, runNumber, runImage, runBytes, loadNumber};
 use coprocessor::Coprocessor;
-use coprocessor::Written;
 use parts::refusals::Refusal;
 use parts::refusals::accepts;
 use parts::refusals::number;
@@ -17,15 +14,6 @@ fn answer(refusal: Refusal, value: u32) -> u64
     ensures { λ r. ⌜ r ≡ callAnswer refusal value ⌝ }
 {
     number(refusal) as u64 * 4294967296 + value as u64
-}
-
-// The record that the image is, if it loads.
-fn unpack(image: &[u8]) -> Written
-    ensures { λ r. ⌜ r ≡ loadAnswer (freshAnswer 1 .coprocessor) (now (image .entry)) ⌝ }
-{
-    let blank = Coprocessor::fresh(1);
-    let old = blank.coprocessor;
-    old.load(image)
 }
 
 // Makes the image that of a fresh state over a memory of this size: 0; 9 for a size outside the limit, with the image of a
@@ -51,7 +39,7 @@ pub extern "C" fn xga_write(image: &mut [u8], offset: u32, length: u32, value: u
     ensures { λ r. ⌜ (r ≡ writeNumber (now (image .entry)) (record { offset = offset; length = length; value = value }))
         × (now (image .exit) ≡ writeImage (now (image .entry)) (record { offset = offset; length = length; value = value })) ⌝ }
 {
-    let opened = unpack(image);
+    let opened = Coprocessor::unpack(image);
     let found = opened.refusal;
     if !accepts(found) {
         return NO_IMAGE;
@@ -69,7 +57,7 @@ pub extern "C" fn xga_write(image: &mut [u8], offset: u32, length: u32, value: u
 pub extern "C" fn xga_read(image: &[u8], offset: u32, length: u32) -> u64
     ensures { λ r. ⌜ r ≡ readNumber (now (image .entry)) offset length ⌝ }
 {
-    let opened = unpack(image);
+    let opened = Coprocessor::unpack(image);
     let refusal = opened.refusal;
     if !accepts(refusal) {
         return answer(refusal, 0);
@@ -87,7 +75,7 @@ pub extern "C" fn xga_run(image: &mut [u8], memory: &mut [u8], allowance: u32) -
         × (now (image .exit) ≡ runImage (now (image .entry)) (now (memory .entry)) allowance)
         × (now (memory .exit) ≡ runBytes (now (image .entry)) (now (memory .entry)) allowance) ⌝ }
 {
-    let opened = unpack(image);
+    let opened = Coprocessor::unpack(image);
     let found = opened.refusal;
     if !accepts(found) {
         return answer(found, 0);
@@ -105,7 +93,7 @@ pub extern "C" fn xga_run(image: &mut [u8], memory: &mut [u8], allowance: u32) -
 pub extern "C" fn xga_load(image: &[u8]) -> u32
     ensures { λ r. ⌜ r ≡ loadNumber (now (image .entry)) ⌝ }
 {
-    let opened = unpack(image);
+    let opened = Coprocessor::unpack(image);
     let refusal = opened.refusal;
     number(refusal)
 }

@@ -8,7 +8,7 @@ use Rattle.numbers.specs.Choose.{choose}
 use Rattle.numbers.specs.Bytes.{covers}
 use Rattle.numbers.specs.declared.bytes.Write.{Write}
 use Rattle.parts.specs.declared.refusals.Refusal.{Refusal}
-use Rattle.parts.specs.declared.refusals.Refusal.the-variants.{Accepted, Place, Unfinished, Unlisted, Function}
+use Rattle.parts.specs.declared.refusals.Refusal.the-variants.{Accepted, Place, Unfinished, Unlisted, Function, Image}
 use Rattle.parts.specs.Drawings.{unfinished}
 use Rattle.parts.specs.Registers.{placed, listed}
 use Rattle.rules.specs.Operations.{draws}
@@ -18,9 +18,11 @@ use Rattle.image.specs.Layout as layout
 use Rattle.image.specs.Layout.{fieldAt, imageLength}
 use Rattle.image.specs.Read.{countersFrom}
 use Rattle.coprocessor.specs.declared.Coprocessor.{Coprocessor}
+use Rattle.coprocessor.specs.declared.Written.{Written}
+use Rattle.coprocessor.specs.Fresh.{freshOf}
 use Rattle.coprocessor.specs.Valid.{validOf}
 use Rattle.coprocessor.specs.Writes.{stored, startedRefusal}
-use Rattle.coprocessor.specs.Images.{loaded}
+use Rattle.coprocessor.specs.Images.{loaded, loads}
 
 -- the lowest of a write's refusals 1 to 8
 unfoldable pub lowerRefusal : Write → Coprocessor → Refusal
@@ -44,3 +46,8 @@ loadsBy b =
     && eqb (fieldAt layout.version b) 1
     && sameCounters (countersFrom b) (countersOf (loaded b .drawing))
     && validOf (loaded b)
+
+-- whether bytes load, and the record that they make; a fresh one where they are too few or too many
+unfoldable pub openedOf : List ℕ → Written
+openedOf b =
+    record { refusal = choose (loads b) Accepted Image; coprocessor = choose (eqb (length b) imageLength) (loaded b) (freshOf 1) }

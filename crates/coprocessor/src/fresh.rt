@@ -18,7 +18,7 @@ pub(crate) fn size_holds(size: u32) -> bool
 }
 
 // All registers zero, idle and not stopped, over a memory of this size.
-fn zero(size: u32) -> Coprocessor
+pub(crate) fn zero(size: u32) -> Coprocessor
     ensures { λ r. ⌜ r ≡ freshOf size ⌝ }
 {
     let map = Map {

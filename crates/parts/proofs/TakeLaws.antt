@@ -6,6 +6,7 @@ use Prim.Native.Nat.{ℕ, _+_, _-_, _^_, _≤_, _<_}
 use native.Mathlib.Nat.{mod-lt, mod-eq-of-lt}
 use native.Mathlib.Omega.{arith}
 use lib.Dec.{leb, ltb}
+use lib.IntN.{ℤ}
 use lib.Pow.{pow-pos}
 use borrow.Author.Tests.{leb-true, ltb-true, le-leb, lt-leb, lt-ltb, le-ltb}
 use Rattle.numbers.specs.Bytes.{covers, latched}
@@ -13,8 +14,8 @@ use Rattle.numbers.specs.declared.bytes.Write.{Write}
 use Rattle.numbers.proofs.ByteLaws.{latched-lt, latched-uncovered}
 use Rattle.numbers.proofs.Choices.{choose-either}
 use Rattle.numbers.proofs.Order.{lt-or-le}
-use Rattle.parts.specs.Registers.{whole, lowBits}
-use Rattle.parts.specs.Takes.{touched, taken}
+use Rattle.parts.specs.Registers.{Register, whole, lowBits}
+use Rattle.parts.specs.Takes.{touched, taken, takenOnto}
 
 -- ---- a register of one byte
 
@@ -54,6 +55,30 @@ module _ (n at : ℕ) (w : Write) (apart : touched n at w ≡ false) where
   pub low-untouched : (bits stored : ℕ) → taken (lowBits bits n at) w stored ≡ stored
   unfolding taken
   low-untouched bits stored = rw apart
+
+-- a register that lies in a part of the bank which the write does not touch stays
+module _ (n at : ℕ) (w : Write) (apart : touched n at w ≡ false) (r : Register) (from : at ≤ r .at) (to : r .at + r .bytes ≤ at + n) where
+  part-untouched : touched (r .bytes) (r .at) w ≡ false
+  unfolding touched
+  part-untouched = by (touched (r .bytes) (r .at) w) refl
+    where
+      by : (t : Bool) → touched (r .bytes) (r .at) w ≡ t → touched (r .bytes) (r .at) w ≡ false
+      by false e = e
+      by true e =
+          let parts = and-eq-true-iff (ltb (w .offset) (r .at + r .bytes)) (ltb (r .at) (w .offset + w .length)) .0 e in
+          let low : w .offset < r .at + r .bytes = ltb-true _ _ (parts .0) in
+          let high : r .at < w .offset + w .length = ltb-true _ _ (parts .1) in
+          let before : ltb (w .offset) (at + n) ≡ true = lt-ltb (w .offset) (at + n) (omega arith) in
+          let after : ltb at (w .offset + w .length) ≡ true = lt-ltb at (w .offset + w .length) (omega arith) in
+          absurd (true≢false (simp (before, after) at apart))
+
+  pub taken-untouched : (stored : ℕ) → taken r w stored ≡ stored
+  unfolding taken
+  taken-untouched stored = rw part-untouched
+
+  pub onto-untouched : (z : ℤ) → takenOnto r w z ≡ z
+  unfolding takenOnto
+  onto-untouched z = rw part-untouched
 
 -- ---- a register after any write
 

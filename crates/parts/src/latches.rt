@@ -1,4 +1,4 @@
-// What each group of registers is after a write, register by register.
+// What each group of registers is after a write, register by register; one that the write does not reach is handed on whole.
 
 use crate::shapes::Colours;
 use crate::shapes::Compare;
@@ -15,6 +15,7 @@ use crate::takes::take_destination;
 use crate::takes::take_term;
 use crate::takes::take_twelve_bits;
 use crate::takes::take_word;
+use crate::takes::touches;
 use numbers::bytes::Write;
 use pixels::Map;
 ghost use mathlib.Core.Path.{_≡_};
@@ -74,11 +75,15 @@ const OPERATIONS: u8 = 0x7C;
 pub fn latch_map(map: Map, w: Write) -> Map
     ensures { λ r. ⌜ r ≡ defined.mapLatched w map ⌝ }
 {
-    Map {
-        base: take_word(map.base, MAP_BASE, w),
-        width: take_twelve_bits(map.width, MAP_WIDTH, w),
-        height: take_twelve_bits(map.height, MAP_HEIGHT, w),
-        format: take_bits(4, map.format, MAP_FORMAT, w),
+    if touches(9, MAP_BASE, w) {
+        Map {
+            base: take_word(map.base, MAP_BASE, w),
+            width: take_twelve_bits(map.width, MAP_WIDTH, w),
+            height: take_twelve_bits(map.height, MAP_HEIGHT, w),
+            format: take_bits(4, map.format, MAP_FORMAT, w),
+        }
+    } else {
+        map
     }
 }
 
@@ -86,10 +91,14 @@ pub fn latch_map(map: Map, w: Write) -> Map
 fn latch_terms(terms: Terms, w: Write) -> Terms
     ensures { λ r. ⌜ r ≡ defined.termsLatched w terms ⌝ }
 {
-    Terms {
-        e: take_term(terms.e, E, w),
-        k1: take_term(terms.k1, K1, w),
-        k2: take_term(terms.k2, K2, w),
+    if touches(12, E, w) {
+        Terms {
+            e: take_term(terms.e, E, w),
+            k1: take_term(terms.k1, K1, w),
+            k2: take_term(terms.k2, K2, w),
+        }
+    } else {
+        terms
     }
 }
 
@@ -138,15 +147,19 @@ fn latch_spot(spot: Spot, w: Write) -> Spot
 fn latch_colours(colours: Colours, w: Write) -> Colours
     ensures { λ r. ⌜ r ≡ defined.coloursLatched w colours ⌝ }
 {
-    let foreground = colours.foreground;
-    let background = colours.background;
-    let compare = colours.compare;
-    Colours {
-        foreground: latch_ink(foreground, FOREGROUND_MIX, FOREGROUND_COLOUR, w),
-        background: latch_ink(background, BACKGROUND_MIX, BACKGROUND_COLOUR, w),
-        compare: latch_compare(compare, w),
-        planes: take_word(colours.planes, PLANES, w),
-        carries: take_word(colours.carries, CARRIES, w),
+    if touches(24, FOREGROUND_MIX, w) {
+        let foreground = colours.foreground;
+        let background = colours.background;
+        let compare = colours.compare;
+        Colours {
+            foreground: latch_ink(foreground, FOREGROUND_MIX, FOREGROUND_COLOUR, w),
+            background: latch_ink(background, BACKGROUND_MIX, BACKGROUND_COLOUR, w),
+            compare: latch_compare(compare, w),
+            planes: take_word(colours.planes, PLANES, w),
+            carries: take_word(colours.carries, CARRIES, w),
+        }
+    } else {
+        colours
     }
 }
 
@@ -168,13 +181,17 @@ fn latch_figure(figure: Figure, w: Write) -> Figure
 fn latch_pointers(pointers: Pointers, w: Write) -> Pointers
     ensures { λ r. ⌜ r ≡ defined.pointersLatched w pointers ⌝ }
 {
-    let source = pointers.source;
-    let pattern = pointers.pattern;
-    let destination = pointers.destination;
-    Pointers {
-        source: latch_point(source, SOURCE, w),
-        pattern: latch_point(pattern, PATTERN, w),
-        destination: latch_spot(destination, w),
+    if touches(12, SOURCE, w) {
+        let source = pointers.source;
+        let pattern = pointers.pattern;
+        let destination = pointers.destination;
+        Pointers {
+            source: latch_point(source, SOURCE, w),
+            pattern: latch_point(pattern, PATTERN, w),
+            destination: latch_spot(destination, w),
+        }
+    } else {
+        pointers
     }
 }
 

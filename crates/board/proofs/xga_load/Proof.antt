@@ -1,6 +1,6 @@
 -- `xga_load` says whether the image loads: its number is that of the load's refusal.
 use Rattle.board.specs.Calls.{loadNumber}
-use Rattle.coprocessor.proofs.Opened.{opened-number}
+use Rattle.coprocessor.proofs.Opened.{open-number}
 use borrow.Author.Needs.{needs}
 use Rattle.board.proofs.xga_load.Statement.{statement}
 use Rattle.board.proofs.xga_load.Tie as tie
@@ -13,7 +13,7 @@ number-requires c κs = search needs
 
 returns : tie.Need-returns
 unfolding loadNumber
-returns c = rw (c .number .ensures, c .before .unpack .ensures) (opened-number _ _)
+returns c = rw (c .number .ensures, c .before .unpack .ensures) (open-number _)
 
 pub xga-load-spec : {M : Type 1} → statement M
 xga-load-spec = tie.close (tie.spec unpack-requires number-requires returns)

@@ -9,7 +9,7 @@ use Rattle.coprocessor.specs.declared.Written.{Written}
 use Rattle.coprocessor.specs.Valid.{validOf}
 use Rattle.coprocessor.specs.Writes.{writeAnswer}
 use Rattle.coprocessor.specs.Images.{imageOf, loads, loaded}
-use Rattle.coprocessor.proofs.Opened.{opened-accepts, opened-record}
+use Rattle.coprocessor.proofs.Opened.{open-accepts, open-record}
 use Rattle.laws.proofs.LoadedLaws.{loads-length, loaded-valid, saved-valid}
 use Rattle.laws.proofs.ValidWrites.{write-valid}
 use Rattle.board.specs.Calls.{writeNumber, writeImage}
@@ -18,14 +18,14 @@ use Rattle.board.proofs.xga_write.Statement.{statement}
 use Rattle.board.proofs.xga_write.Tie as tie
 
 opened : (c : tie.After-accepts) → c .accepts .result ≡ loads (c .before .before .before .before .args .image .now)
-opened c = c .accepts .ensures ∙ ap (λ (a : Written). isAccepted (a .refusal)) (c .before .unpack .ensures) ∙ opened-accepts _ _
+opened c = c .accepts .ensures ∙ ap (λ (a : Written). isAccepted (a .refusal)) (c .before .unpack .ensures) ∙ open-accepts _
 
 fine : (c : tie.After-state) → loads (c .before .before .before .before .before .before .args .image .now) ≡ true
 fine c = sym (opened (c .before .before)) ∙ not-false _ (c .before .if1 .left)
 
 -- the record that the image is
 begun : (c : tie.After-state) → c .before .before .before .unpack .result .coprocessor ≡ loaded (c .before .before .before .before .before .before .args .image .now)
-begun c = ap (λ (a : Written). a .coprocessor) (c .before .before .before .unpack .ensures) ∙ opened-record _ _ (fine c)
+begun c = ap (λ (a : Written). a .coprocessor) (c .before .before .before .unpack .ensures) ∙ open-record _ (fine c)
 
 -- the write of it
 wrote : (c : tie.After-write-known) → let a = c .before .before .before .before .before .before .before .args in

@@ -1,28 +1,31 @@
--- `load` answers with the loaded record where the image loads, and with the old one elsewhere.
-use mathlib.Core.Path.{sym, _∙_}
-use borrow.Author.Tests.{ne-eqb}
+-- `load` answers with the record that the image is where it loads, and with the old one elsewhere.
+use mathlib.Core.Path.{_≡_, sym, ap, _∙_}
+use Rattle.parts.specs.Refusals.{isAccepted}
+use Rattle.coprocessor.specs.declared.Written.{Written}
 use Rattle.coprocessor.specs.Images.{loads, loadAnswer}
+use Rattle.coprocessor.proofs.Opened.{open-accepts, open-refused, load-opened}
 use borrow.Author.Needs.{needs}
 use Rattle.coprocessor.proofs.Coprocessor.load.Statement.{statement}
 use Rattle.coprocessor.proofs.Coprocessor.load.Tie as tie
 
+opened : (c : tie.After-accepts) → c .accepts .result ≡ loads (c .before .before .before .args .buffer .now)
+opened c = c .accepts .ensures ∙ ap (λ (a : Written). isAccepted (a .refusal)) (c .before .unpack .ensures) ∙ open-accepts _
+
+unpack-requires : tie.Need-unpack-requires
+unpack-requires c κs = search needs
+
+accepts-requires : tie.Need-accepts-requires
+accepts-requires c κs = search needs
+
 returns : tie.Need-returns
-unfolding loads loadAnswer
-returns c = simp (ne-eqb _ _ (c .if1 .taken))
-
-record-from-requires : tie.Need-record-from-requires
-record-from-requires c κs = search needs
-
-loads-requires : tie.Need-loads-requires
-loads-requires c κs = search needs
+returns c = c .before .before .unpack .ensures ∙ sym (load-opened _ _ (sym (opened (c .before)) ∙ c .if1 .taken))
 
 returns-2 : tie.Need-returns-2
 unfolding loadAnswer
-returns-2 c = simp (sym (c .before .loads .ensures) ∙ c .if2 .taken) (rw (c .before .before .record-from .ensures))
-
-returns-3 : tie.Need-returns-3
-unfolding loadAnswer
-returns-3 c = simp (sym (c .before .loads .ensures) ∙ c .if2 .left)
+returns-2 c =
+    let fails = sym (opened (c .before)) ∙ c .if1 .left in
+    let refusal = ap (λ (a : Written). a .refusal) (c .before .before .unpack .ensures) ∙ open-refused _ fails in
+    simp fails (λ i. record { refusal = refusal i; coprocessor = c .before .before .before .before .args .self })
 
 pub load-spec : {M : Type 1} → statement M
-load-spec = tie.close (tie.spec returns record-from-requires loads-requires returns-2 returns-3)
+load-spec = tie.close (tie.spec unpack-requires accepts-requires returns returns-2)

@@ -1,8 +1,13 @@
--- `latch_colours` is the colours after the write: each field is its registers'.
+-- `latch_colours` is the colours after the write: each field is its registers', and colours that the write does not reach stay.
+use mathlib.Core.Path.{sym, _∙_}
 use Rattle.parts.specs.Latches.{coloursLatched}
+use Rattle.parts.proofs.LatchLaws.{colours-untouched}
 use borrow.Author.Needs.{needs}
 use Rattle.parts.proofs.latches.latch_colours.Statement.{statement}
 use Rattle.parts.proofs.latches.latch_colours.Tie as tie
+
+touches-requires : tie.Need-touches-requires
+touches-requires c κs = search needs
 
 latch-ink-requires : tie.Need-latch-ink-requires
 latch-ink-requires c κs = search needs
@@ -31,13 +36,18 @@ returns c =
       carries = c .take-word2 .ensures i;
     }
 
+returns-2 : tie.Need-returns-2
+returns-2 c = sym (colours-untouched _ _ (sym (c .before .touches .ensures) ∙ c .if1 .left))
+
 pub latch-colours-spec : {M : Type 1} → statement M
 latch-colours-spec =
     tie.close
     (tie.spec
+    touches-requires
     latch-ink-requires
     latch-ink-requires-2
     latch-compare-requires
     take-word-requires
     take-word-requires-2
-    returns)
+    returns
+    returns-2)

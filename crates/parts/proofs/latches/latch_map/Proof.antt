@@ -1,8 +1,13 @@
--- `latch_map` is the map after the write: each field is its register's.
-use borrow.Author.Needs.{needs}
+-- `latch_map` is the map after the write: each field is its register's, and a map that the write does not reach stays.
+use mathlib.Core.Path.{sym, _∙_}
 use Rattle.parts.specs.Latches.{mapLatched}
+use Rattle.parts.proofs.LatchLaws.{map-untouched}
+use borrow.Author.Needs.{needs}
 use Rattle.parts.proofs.latches.latch_map.Statement.{statement}
 use Rattle.parts.proofs.latches.latch_map.Tie as tie
+
+touches-requires : tie.Need-touches-requires
+touches-requires c κs = search needs
 
 take-word-requires : tie.Need-take-word-requires
 take-word-requires c κs = search needs
@@ -19,18 +24,25 @@ take-bits-requires c κs = search needs
 returns : tie.Need-returns
 unfolding mapLatched
 returns c =
-    let base = c .before .before .before .take-word .ensures in
-    let width = c .before .before .take-twelve-bits .ensures in
-    let height = c .before .take-twelve-bits2 .ensures in
-    let format = c .take-bits .ensures in
-    λ i. record { base = base i; width = width i; height = height i; format = format i }
+    let width = c .before .before in
+    λ i. record {
+      base = width .before .take-word .ensures i;
+      width = width .take-twelve-bits .ensures i;
+      height = c .before .take-twelve-bits2 .ensures i;
+      format = c .take-bits .ensures i;
+    }
+
+returns-2 : tie.Need-returns-2
+returns-2 c = sym (map-untouched _ _ (sym (c .before .touches .ensures) ∙ c .if1 .left))
 
 pub latch-map-spec : {M : Type 1} → statement M
 latch-map-spec =
     tie.close
     (tie.spec
+    touches-requires
     take-word-requires
     take-twelve-bits-requires
     take-twelve-bits-requires-2
     take-bits-requires
-    returns)
+    returns
+    returns-2)
