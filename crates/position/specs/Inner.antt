@@ -12,12 +12,22 @@ use Rattle.moves.specs.Inner.{pointersInside}
 use Rattle.places.specs.declared.Setup.{Setup}
 use Rattle.places.specs.Places.{columnOf, placeX, onMap, inMask, isMove, isNulled}
 use Rattle.position.specs.declared.Fate.{Fate}
-use Rattle.position.specs.declared.Fate.the-variants.{Moved, Nulled, OutsideMap, OutsideMask, Painted}
+use Rattle.position.specs.declared.Fate.the-variants.{Moved, Nulled, OutsideMap, OutsideMask, MaskZero, Compared, Painted}
 use Rattle.position.specs.declared.Pattern.{Pattern}
 use Rattle.position.specs.declared.Sight.{Sight}
 use Rattle.position.specs.Fates.{destinationPixel, onZero}
 use Rattle.position.specs.Drawn.{sourcePixel, isOne, insideAt}
 use Rattle.position.specs.Within.{readsSource}
+
+-- whether a fate writes
+abbrev pub isPainted : Fate → Bool
+isPainted Moved = false
+isPainted Nulled = false
+isPainted OutsideMap = false
+isPainted OutsideMask = false
+isPainted MaskZero = false
+isPainted Compared = false
+isPainted Painted = true
 
 -- the pattern as it is read: its map's pixel, in a fill whether that is inside then, and 1 where the map is not used
 unfoldable pub patternRead : Setup → List ℕ → Pen → Pattern
@@ -30,10 +40,6 @@ patternRead s memory pen =
 -- the source pixel as it is read, 0 where it is not
 unfoldable pub sourceRead : Setup → List ℕ → Pen → ℕ
 sourceRead s memory pen = choose (readsSource (s .brush .flow)) (sourcePixel (s .travel) memory pen) 0
-
--- what becomes of a position wherever it is
-unfoldable pub heldOf : Setup → Pen → Fate
-heldOf s pen = choose (isMove (s .travel) (pen .drawing)) Moved (choose (isNulled s pen) Nulled Painted)
 
 -- what becomes of a position as far as no memory tells
 unfoldable pub foreseenOf : Setup → Pen → Fate
@@ -49,10 +55,10 @@ pub record Seen (s : Setup) (memory : List ℕ) (pen : Pen) (sight : Sight) : Ty
   pub pattern : sight .pattern ≡ patternRead s memory pen
   pub source : sight .source ≡ sourceRead s memory pen
   pub foreseen : sight .foreseen ≡ foreseenOf s pen
-  pub zero : foreseenOf s pen ≡ Painted → sight .zero ≡ onZero (s .brush) memory pen
-  pub cell : foreseenOf s pen ≡ Painted → onZero (s .brush) memory pen ≡ false
-      → sight .cell ≡ cellAt memory (s .brush .destination) (columnOf (placeX (s .brush) pen)) (columnOf (pen .pointers .destination .y))
-  pub pixel : foreseenOf s pen ≡ Painted → onZero (s .brush) memory pen ≡ false → sight .pixel ≡ destinationPixel (s .brush) memory pen
+  pub zero : isPainted (foreseenOf s pen) ≡ true → sight .zero ≡ onZero (s .brush) memory pen
+  pub target : isPainted (foreseenOf s pen) ≡ true → onZero (s .brush) memory pen ≡ false
+      → (sight .cell ≡ cellAt memory (s .brush .destination) (columnOf (placeX (s .brush) pen)) (columnOf (pen .pointers .destination .y)))
+      × (sight .pixel ≡ destinationPixel (s .brush) memory pen)
 
 -- every used map ends within a memory of this size, and used source and pattern pointers lie in theirs: what every move keeps
 pub record Safe (s : Setup) (size : ℕ) (pen : Pen) : Type 0 where

@@ -15,6 +15,7 @@ use crate::Fate;
 use crate::Pattern;
 use crate::Sight;
 use crate::judge::foresee;
+use crate::judge::is_painted;
 use moves::Pen;
 use parts::drawing::Drawing;
 use parts::drawing::is_inside;
@@ -142,7 +143,7 @@ pub(crate) fn look(setup: Setup, memory: &[u8], pen: Pen) -> Sight
     let pattern = pattern_read(setup, memory, pen);
     let source = source_read(setup, memory, pen);
     let foreseen = foresee(setup, pen);
-    if let Fate::Painted = foreseen {
+    if is_painted(foreseen) {
         if is_on_zero(setup, memory, pen) {
             return blank(pattern, source, foreseen, true);
         }

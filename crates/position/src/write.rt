@@ -1,16 +1,16 @@
 // What a painted position writes, from what it found.
 
 ghost use mathlib.Core.Path.{_≡_};
+ghost use mathlib.Core.Bool.{true};
 ghost use mathlib.Core.List.{List};
 ghost use Prim.Native.Nat.{ℕ, _+_, _≤_, _<_};
 ghost use lib.ListN.{length};
 ghost use Rattle.numbers.specs.Choose.{choose};
 ghost use Rattle.mixes.specs.Inner.{Cut};
 ghost use Rattle.moves.specs.declared.Pen.{Pen};
-ghost use Rattle.position.specs.declared.Fate.the-variants.{Painted};
 ghost use Rattle.position.specs.Fates.{fateOf, destinationPixel};
-ghost use Rattle.position.specs.Drawn.{isForeground, mixedPixel, drawnBy};
-ghost use Rattle.position.specs.Inner.{Seen};
+ghost use Rattle.position.specs.Drawn.{isForeground, mixedPixel, drawn};
+ghost use Rattle.position.specs.Inner.{isPainted, Seen};
 use crate::Sight;
 use mixes::mix;
 use parts::shapes::Ink;
@@ -86,8 +86,8 @@ fn mixed_pixel(setup: Setup, sight: Sight) -> u32
 pub(crate) fn write(setup: Setup, memory: &mut [u8], sight: Sight)
     requires { ⌜ Cut (setup .brush .depth) × (sight .cell .shift + sight .cell .bits ≤ 8) × (sight .cell .at < length (now memory)) ⌝ }
     ensures { λ _.
-        ⌜ ((pen : Pen) → Seen setup (now (memory .entry)) pen sight → fateOf setup (now (memory .entry)) pen ≡ Painted
-        → now (memory .exit) ≡ drawnBy Painted setup (now (memory .entry)) pen) ⌝ }
+        ⌜ ((pen : Pen) → Seen setup (now (memory .entry)) pen sight → isPainted (fateOf setup (now (memory .entry)) pen) ≡ true
+        → now (memory .exit) ≡ drawn setup (now (memory .entry)) pen) ⌝ }
 {
     let new = mixed_pixel(setup, sight);
     let cell = sight.cell;
