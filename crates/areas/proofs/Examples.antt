@@ -159,13 +159,14 @@ pub example-area : (filledRow 0 ≡ fiveOf (λ x. false))
     × (oddRow 0 ≡ fiveOf (λ x. false))
     × (oddRow 1 ≡ true ∷ true ∷ true ∷ false ∷ false ∷ [])
     × (oddRow 4 ≡ true ∷ true ∷ true ∷ false ∷ false ∷ [])
-unfolding byteOf forth back residue circle field withField bitsOf startOf placeOf shiftOf neededOf byteAt pixelAt withPixel tableBit logical gathered merged
-    mixed holdsOf conditionHolds insideOf withInside mapReduced termReduced termsReduced compareReduced pointReduced destinationReduced spotReduced isMap
-    isLine isCodes isFill isBlock modeOf sourceIsColour usesSource usesPattern usesMask mapAt formatHolds isOneBit endHolds isInside isSource isPattern
-    fillHolds fieldsHold mixesHold usedMaps formatsHold endsHold startRefusal codeAt noneStopped countersHold pointersHold codesFrom totalOf signOf courseOf
-    travelOf flowOf edgeOf depthOf brushOf opposite turnedBy circledBy pointStepped spotStepped lineStep codeStep movesRow goesUp sourceBy destinationBy penStepped penWith penGone lineError
-    rises lineMoved codePassed codesMoved columnPassed rowPoint rowSpot rowPassed blockMoved movedBy moved isWithin columnOf placeX onMap inMask isMove
-    isFirst isLast ofRun onBoundary nulledBy isNulled destinationPixel onZero isCompared fateOf sourcePixel isOne insideAt crossed isForeground inkOf picked mixedPixel
-    drawnBy drawn begun positioned stepped after sizeHolds startRefusalOf mapsReduced pointersReduced reducedOf goesOn validOf setupOf penOf ranOf runRefusal
-    runMemory penAfter below samePlace crosses crossesAt crossings atStart outlined crossingsOf isOdd foregroundAfter crossingsUpTo
+unfolding byteOf forth back residue circle field withField bitsOf startOf placeOf shiftOf neededOf byteAt pixelAt withPixel tableBit logical gathered
+    merged mixed holdsOf conditionHolds insideOf withInside mapReduced termReduced termsReduced compareReduced pointReduced destinationReduced
+    spotReduced isMap isLine isCodes isFill isBlock modeOf sourceIsColour usesSource usesPattern usesMask mapAt formatHolds isOneBit endHolds isInside
+    isSource isPattern fillHolds fieldsHold mixesHold usedMaps formatsHold endsHold startRefusal codeAt noneStopped countersHold pointersHold
+    codesFrom totalOf signOf courseOf travelOf flowOf edgeOf depthOf brushOf turnedBy circledBy pointStepped spotStepped lineStep codeStep sourceBy
+    destinationBy penStepped penWith penGone lineError rises lineMoved codePassed codesMoved columnPassed rowPoint rowSpot rowPassed blockMoved
+    movedBy moved isWithin columnOf placeX onMap inMask isMove isFirst isLast onBoundary nulledBy isNulled destinationPixel onZero isCompared fateOf
+    sourcePixel isOne insideAt crossed isForeground inkOf picked mixedPixel drawnBy drawn begun positioned stepped after sizeHolds startRefusalOf
+    mapsReduced pointersReduced reducedOf goesOn validOf setupOf penOf ranOf runRefusal runMemory penAfter below samePlace crosses crossesAt crossings
+    atStart outlined crossingsOf isOdd foregroundAfter crossingsUpTo
 example-area = (refl, refl, refl, refl, refl, refl)

@@ -1,4 +1,4 @@
--- `run` answers the definition: a refused run does nothing, and an accepted one is the positions of the set-up and the pen that the record holds, which is safe.
+-- `run` answers the definition: a refused run does nothing, and an accepted one is the positions of the record's set-up and pen, which is safe.
 use mathlib.Core.Path.{_≡_, sym, ap, _∙_}
 use borrow.Author.Needs.{needs}
 use borrow.Author.Tests.{not-true, not-false}

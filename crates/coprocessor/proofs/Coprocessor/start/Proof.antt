@@ -23,13 +23,15 @@ with-pen-requires c κs = search needs
 
 returns : tie.Need-returns
 unfolding started
-returns c = let source = c .before .before .before .before in
+returns c =
+    let pattern = c .before .before .before in
+    let source = pattern .before in
     let self = source .before .before .before .before .before .before .args .self in
     let e : SFits w32 (self .terms .e) = search (needs, c .before .struct-told .given) in
     c .with-pen .ensures
     ∙ ap (withPen self)
     (λ i. record {
-      pointers = record { source = source .start-source .ensures i; pattern = c .before .before .before .start-pattern .ensures i; destination = self .destination };
+      pointers = record { source = source .start-source .ensures i; pattern = pattern .start-pattern .ensures i; destination = self .destination };
       e = toZ-ofZ w32 (self .terms .e) e i;
       drawing = c .before .before .start-drawing .ensures i;
     })
