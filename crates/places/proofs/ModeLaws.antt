@@ -1,16 +1,14 @@
--- What move codes and the drawing mode hold back: of a mode's three tests one is left, or none, and nothing holds back a block.
+-- What move codes and the drawing mode hold back: of a mode's three tests one is left, or none, and a move is told by the code that is drawn.
 use mathlib.Core.Path.{_≡_, refl}
-use mathlib.Core.Bool.{Bool, true, false, _&&_, _||_, false≢true}
+use mathlib.Core.Bool.{Bool, true, false, _&&_, _||_}
 use Prim.Native.Nat.{ℕ}
 use lib.Dec.{eqb}
-use lib.IntN.{ℤ}
 use borrow.Author.Tests.{ne-eqb}
 use Rattle.parts.specs.declared.drawing.Drawing.{Drawing}
 use Rattle.parts.specs.declared.drawing.Drawing.the-variants.{Nothing, Line, Codes, Block}
 use Rattle.moves.specs.declared.Travel.{Travel}
-use Rattle.places.specs.declared.Setup.{Setup}
-use Rattle.places.specs.Places.{isMove, isFirst, isLast, onBoundary, nulledBy}
-use Rattle.places.specs.Inner.{codeIn, movesBy, isFree}
+use Rattle.places.specs.Places.{isMove}
+use Rattle.places.specs.Inner.{codeIn, movesBy}
 
 -- what first null, last null and an area boundary leave out
 abbrev left : ℕ → Bool → Bool → Bool → Bool
@@ -42,20 +40,9 @@ none-left false true false = refl
 none-left false false true = refl
 none-left false false false = refl
 
--- ---- what is held back
-
 pub moves-by : (t : Travel) (d : Drawing) {code : ℕ} → code ≡ codeIn (t .steps) d → movesBy code d ≡ isMove t d
 unfolding isMove
 moves-by t (Nothing stopped) e = refl
 moves-by t (Line rose done) e = refl
 moves-by t (Codes count code done) e = rw e
 moves-by t (Block inside column row) e = refl
-
-pub free-kept : (s : Setup) (e : ℤ) (d : Drawing) → isFree d ≡ true → (isMove (s .travel) d ≡ false) × (nulledBy s e d ≡ false)
-unfolding isMove isFirst isLast onBoundary nulledBy
-free-kept s e (Nothing stopped) free = absurd (false≢true free)
-free-kept s e (Line rose done) free = absurd (false≢true free)
-free-kept s e (Codes count code done) free = absurd (false≢true free)
-free-kept s e (Block inside column row) free =
-    let mode = s .brush .flow .mode in
-    (refl, none-left (eqb mode 1) (eqb mode 2) (eqb mode 3))

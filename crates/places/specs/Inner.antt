@@ -23,10 +23,3 @@ areCodes (Block inside column row) = false
 -- whether a position only moves, by the code that is drawn
 abbrev pub movesBy : ℕ → Drawing → Bool
 movesBy code d = areCodes d && eqb (code / 16 % 2) 0
-
--- whether nothing holds a position back, whatever its mode
-abbrev pub isFree : Drawing → Bool
-isFree (Nothing stopped) = false
-isFree (Line rose done) = false
-isFree (Codes count code done) = false
-isFree (Block inside column row) = true

@@ -9,7 +9,7 @@ ghost use Rattle.rules.specs.Starts.{codeAt};
 ghost use Rattle.moves.specs.Steps.{codeStep};
 ghost use Rattle.parts.specs.declared.drawing.Drawing.the-variants.{Line, Codes};
 ghost use Rattle.places.specs.Places.{ofRun, onBoundary, nulledBy};
-ghost use Rattle.places.specs.Inner.{codeIn, areCodes, movesBy, isFree};
+ghost use Rattle.places.specs.Inner.{codeIn, areCodes, movesBy};
 use crate::Setup;
 use moves::Travel;
 use moves::Turn;
@@ -75,18 +75,6 @@ fn code_nulled(setup: Setup, code: u8, done: u16) -> bool
         2 => last,
         3 => !code_bounds(code, done, last),
         _ => false,
-    }
-}
-
-// Whether nothing holds a position back, whatever its mode: one of a block.
-pub fn is_free(drawing: Drawing) -> bool
-    ensures { λ r. ⌜ r ≡ isFree drawing ⌝ }
-{
-    match drawing {
-        Drawing::Nothing { .. } => false,
-        Drawing::Line { .. } => false,
-        Drawing::Codes { .. } => false,
-        Drawing::Block { .. } => true,
     }
 }
 

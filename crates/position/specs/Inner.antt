@@ -50,15 +50,18 @@ foreseenOf s pen =
     (choose (not (inMask (s .brush) pen)) OutsideMask
     Painted)))
 
--- this is what a position finds in a memory: of mask and destination where it may be painted, and of the destination where the mask lets it
+-- this is what a painted position finds of its destination and its source
+pub record Target (s : Setup) (memory : List ℕ) (pen : Pen) (sight : Sight) : Type 0 where
+  pub cell : sight .cell ≡ cellAt memory (s .brush .destination) (columnOf (placeX (s .brush) pen)) (columnOf (pen .pointers .destination .y))
+  pub pixel : sight .pixel ≡ destinationPixel (s .brush) memory pen
+  pub source : sight .source ≡ sourceRead s memory pen
+
+-- this is what a position finds in a memory: the mask where it may be painted, and the target where the mask lets it
 pub record Seen (s : Setup) (memory : List ℕ) (pen : Pen) (sight : Sight) : Type 0 where
   pub pattern : sight .pattern ≡ patternRead s memory pen
-  pub source : sight .source ≡ sourceRead s memory pen
   pub foreseen : sight .foreseen ≡ foreseenOf s pen
   pub zero : isPainted (foreseenOf s pen) ≡ true → sight .zero ≡ onZero (s .brush) memory pen
-  pub target : isPainted (foreseenOf s pen) ≡ true → onZero (s .brush) memory pen ≡ false
-      → (sight .cell ≡ cellAt memory (s .brush .destination) (columnOf (placeX (s .brush) pen)) (columnOf (pen .pointers .destination .y)))
-      × (sight .pixel ≡ destinationPixel (s .brush) memory pen)
+  pub target : isPainted (foreseenOf s pen) ≡ true → onZero (s .brush) memory pen ≡ false → Target s memory pen sight
 
 -- every used map ends within a memory of this size, and used source and pattern pointers lie in theirs: what every move keeps
 pub record Safe (s : Setup) (size : ℕ) (pen : Pen) : Type 0 where

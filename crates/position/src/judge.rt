@@ -15,7 +15,6 @@ use moves::Pen;
 use places::Brush;
 use places::Setup;
 use places::modes::code_in;
-use places::modes::is_free;
 use places::modes::is_move;
 use places::modes::is_nulled;
 use places::places::in_mask;
@@ -41,14 +40,12 @@ pub(crate) fn foresee(setup: Setup, pen: Pen) -> Fate
     ensures { λ r. ⌜ r ≡ foreseenOf setup pen ⌝ }
 {
     let drawing = pen.drawing;
-    if !is_free(drawing) {
-        let code = code_in(setup.travel.steps, drawing);
-        if is_move(code, drawing) {
-            return Fate::Moved;
-        }
-        if is_nulled(setup, code, pen.e, drawing) {
-            return Fate::Nulled;
-        }
+    let code = code_in(setup.travel.steps, drawing);
+    if is_move(code, drawing) {
+        return Fate::Moved;
+    }
+    if is_nulled(setup, code, pen.e, drawing) {
+        return Fate::Nulled;
     }
     if !on_map(setup.brush, pen) {
         return Fate::OutsideMap;

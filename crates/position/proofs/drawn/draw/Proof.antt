@@ -25,7 +25,7 @@ write-requires c κs = let look = c .before .before .before .before in
     let free = painted-open _ _ _ (sym (painted (c .before .before)) ∙ c .before .if1 .taken) in
     let on = open-inside _ (look .before .before .before .args .memory .now) _ (free .0) in
     let pre = look .before .before .before .pre in
-    rw (look .look .ensures .target (free .0) (free .1) .0)
+    rw (look .look .ensures .target (free .0) (free .1) .cell)
     (pre .1, cell-in-byte _ _ _ _, cell-in-memory _ _ _ _ (pre .2 .destination (on .0) (on .1)))
 
 returns : tie.Need-returns

@@ -26,7 +26,7 @@ unfolding isCompared
 condition c memory pen seen =
     let free = foreseen (c .before .before .before) memory pen seen ∙ not-false _ (c .before .before .if1 .left) in
     let off = sym (seen .zero free) ∙ c .before .if2 .left in
-    rw (open-fate _ memory pen free, off, c .is-compared .ensures, seen .target free off .1)
+    rw (open-fate _ memory pen free, off, c .is-compared .ensures, seen .target free off .pixel)
 
 is-painted-requires : tie.Need-is-painted-requires
 is-painted-requires c κs = search needs

@@ -23,8 +23,8 @@ returns c = λ pen seen painted.
     let target = seen .target (free .0) (free .1) in
     rw (
       c .before .before .store .ensures,
-      c .before .before .before .before .before .mixed-pixel .ensures _ pen seen (target .1),
-      target .0,
+      c .before .before .before .before .before .mixed-pixel .ensures _ pen seen target,
+      target .cell,
       drawn-by _ _ pen _,
       painted,
     )
