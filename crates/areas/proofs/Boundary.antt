@@ -41,7 +41,8 @@ module _ (s : Travel) (write : s .course .read ≡ false) where
   unfolding moved movedBy lineMoved codesMoved turnOf circledBy
   row-moved pen r = by r
     where
-      by : {turn : Turn} {d : Drawing} → Reached s turn d → movedBy s d pen .pointers .destination .y ≡ circledBy (turnOf s (pen .e) d) 1 (pen .pointers .destination .y)
+      by : {turn : Turn} {d : Drawing} → Reached s turn d
+          → movedBy s d pen .pointers .destination .y ≡ circledBy (turnOf s (pen .e) d) 1 (pen .pointers .destination .y)
       by none = refl
       by (line {done} steps within) = step-row (ltb done (s .figure .dimensions .x)) (lineStep (s .course) (pen .e)) _ _ _ pen
       by (first {count} {code}) = step-row (ltb 0 (codeAt (s .figure .steps) count code % 16)) (codeStep (codeAt (s .figure .steps) count code)) _ _ _ pen
@@ -83,7 +84,7 @@ module _ (s : Travel) (pen : Pen) (bounds : s .course .bounds ≡ true) (write :
       ap (λ (z : ℤ). samePlace (rowAfter s n pen) (below z)) (row-next n) ∙ up-seen (rowAfter s n pen) (row-on n) (leaving s pen n)
 
   crosses-turns : (n : ℕ) → crosses s pen n ≡ goesDown (leaving s pen n) || goesUp (leading s pen n)
-  unfolding crosses leading goesUp
+  unfolding crosses leading
   crosses-turns zero = down-after 0 ∙ sym (or-false (goesDown (leaving s pen 0)))
   crosses-turns (suc n) = ap₂ _||_ (down-after (suc n)) (up-after n)
 

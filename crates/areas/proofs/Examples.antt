@@ -28,10 +28,10 @@ use Rattle.rules.specs.Totals.{totalOf}
 use Rattle.moves.specs.Decoded.{courseOf, signOf, travelOf}
 use Rattle.moves.specs.Moves.{blockMoved, codePassed, codesMoved, columnPassed, destinationBy, lineError, lineMoved, moved, movedBy, penGone}
 use Rattle.moves.specs.Moves.{penStepped, penWith, rises, rowPassed, rowPoint, rowSpot, sourceBy}
-use Rattle.moves.specs.Steps.{codeStep, goesUp, lineStep, movesRow}
-use Rattle.moves.specs.Turns.{circledBy, opposite, pointStepped, spotStepped, turnedBy}
+use Rattle.moves.specs.Steps.{codeStep, lineStep}
+use Rattle.moves.specs.Turns.{circledBy, pointStepped, spotStepped, turnedBy}
 use Rattle.places.specs.Decoded.{brushOf, edgeOf, flowOf}
-use Rattle.places.specs.Places.{columnOf, inMask, isFirst, isLast, isMove, isNulled, isWithin, nulledBy, ofRun, onBoundary, onMap, placeX}
+use Rattle.places.specs.Places.{columnOf, inMask, isFirst, isLast, isMove, isNulled, isWithin, nulledBy, onBoundary, onMap, placeX}
 use Rattle.position.specs.Drawn.{crossed, drawn, drawnBy, inkOf, insideAt, isForeground, isOne, mixedPixel, picked, sourcePixel}
 use Rattle.position.specs.Fates.{destinationPixel, fateOf, isCompared, onZero}
 use Rattle.runs.specs.Runs.{after, begun, positioned, stepped}
@@ -166,11 +166,11 @@ unfolding byteOf forth back residue circle field withField bitsOf startOf placeO
     merged mixed holdsOf conditionHolds insideOf withInside mapReduced termReduced termsReduced pointReduced destinationReduced spotReduced
     isMap isLine isCodes isFill isBlock modeOf sourceIsColour usesSource usesPattern usesMask mapAt formatHolds isOneBit endHolds isInside
     isSource isPattern fillHolds fieldsHold mixesHold usedMaps formatsHold endsHold startRefusal codeAt noneStopped countersHold pointersHold
-    codesFrom totalOf signOf courseOf travelOf flowOf edgeOf depthOf brushOf opposite turnedBy circledBy pointStepped spotStepped lineStep
-    codeStep movesRow goesUp sourceBy destinationBy penStepped penWith penGone lineError rises lineMoved codePassed codesMoved columnPassed
-    rowPoint rowSpot rowPassed blockMoved movedBy moved isWithin columnOf placeX onMap inMask isMove isFirst isLast ofRun onBoundary nulledBy
-    isNulled destinationPixel onZero isCompared fateOf sourcePixel isOne insideAt crossed isForeground inkOf picked mixedPixel drawnBy drawn
-    begun positioned stepped after sizeHolds startRefusalOf mapsReduced pointersReduced reducedOf goesOn validOf setupOf penOf ranOf runRefusal
-    runMemory penAfter below samePlace crosses crossesAt crossings atStart outlined crossingsOf isOdd foregroundAfter crossingsUpTo
-    coloursReduced figureReduced registersReduced
+    codesFrom totalOf signOf courseOf travelOf flowOf edgeOf depthOf brushOf turnedBy circledBy pointStepped spotStepped lineStep codeStep
+    sourceBy destinationBy penStepped penWith penGone lineError rises lineMoved codePassed codesMoved columnPassed rowPoint rowSpot rowPassed
+    blockMoved movedBy moved isWithin columnOf placeX onMap inMask isMove isFirst isLast onBoundary nulledBy isNulled destinationPixel onZero
+    isCompared fateOf sourcePixel isOne insideAt crossed isForeground inkOf picked mixedPixel drawnBy drawn begun positioned stepped after
+    sizeHolds startRefusalOf mapsReduced pointersReduced reducedOf goesOn validOf setupOf penOf ranOf runRefusal runMemory penAfter below
+    samePlace crosses crossesAt crossings atStart outlined crossingsOf isOdd foregroundAfter crossingsUpTo coloursReduced figureReduced
+    registersReduced
 example-area = (refl, refl, refl, refl, refl, refl)

@@ -25,7 +25,7 @@ use Rattle.position.specs.Drawn.{isForeground}
 use Rattle.runs.specs.Runs.{Run, after}
 use Rattle.runs.proofs.AfterLaws.{after-add}
 use Rattle.areas.specs.Fills.{isOdd, onesFrom}
-use Rattle.areas.proofs.FillRows.{Fills, pattern-after, foreground-at, row-after}
+use Rattle.areas.proofs.FillRows.{ground, Fills, pattern-after, foreground-at, row-after}
 
 -- the same pixels have the same 1s
 ones-same : (m m' : List ℕ) (map : Map) (p : Point) → ((x : ℕ) → x ≤ map .width → pixelAt m map x (p .y) ≡ pixelAt m' map x (p .y))
@@ -43,24 +43,25 @@ record AtRow (row : ℕ) (u : Run) : Type 0 where
 
 module _ (s : Setup) (f : Fills s) (down : s .travel .course .y ≡ Forth) (t : Run) (start : t .pen .drawing ≡ Block false 0 0)
     (corner : t .pen .pointers .pattern ≡ record { x = 0; y = 0 }) where
-  row-inside : (row : ℕ) (p : Point) → row ≤ s .travel .pattern .map .height → p ≡ record { x = 0; y = row } → isInside (s .travel .pattern .map) p ≡ true
+  row-inside : (row : ℕ) (p : Point) → row ≤ ground s .height → p ≡ record { x = 0; y = row } → isInside (ground s) p ≡ true
   unfolding isInside
-  row-inside row p h e = rw e (and-both _ _ (le-leb 0 (s .travel .pattern .map .width) zero-le) (le-leb row (s .travel .pattern .map .height) h))
+  row-inside row p h e = rw e (and-both _ _ (le-leb 0 (ground s .width) zero-le) (le-leb row (ground s .height) h))
 
-  next-row : (row : ℕ) (u : Run) → row < s .travel .figure .dimensions .y → row < s .travel .pattern .map .height → AtRow row u → AtRow (suc row) (after s (suc (s .travel .figure .dimensions .x)) u)
+  next-row : (row : ℕ) (u : Run) → row < s .travel .figure .dimensions .y → row < ground s .height → AtRow row u
+      → AtRow (suc row) (after s (suc (s .travel .figure .dimensions .x)) u)
   unfolding turnedBy
   next-row row u another within at =
       let passed = row-after s f u row (at .drawing) (row-inside row (u .pen .pointers .pattern) (omega arith) (at .pattern)) another in
-      let step : turnedBy (s .travel .course .y) 1 (s .travel .pattern .map .height) (u .pen .pointers .pattern .y) ≡ suc row =
-      ap₂ (λ (turn : Turn) (y : ℕ). turnedBy turn 1 (s .travel .pattern .map .height) y) down (ap (λ (p : Point). p .y) (at .pattern))
-      ∙ forth-inside (s .travel .pattern .map .height + 1) 1 row (omega arith)
+      let step : turnedBy (s .travel .course .y) 1 (ground s .height) (u .pen .pointers .pattern .y) ≡ suc row =
+      ap₂ (λ (turn : Turn) (y : ℕ). turnedBy turn 1 (ground s .height) y) down (ap (λ (p : Point). p .y) (at .pattern))
+      ∙ forth-inside (ground s .height + 1) 1 row (omega arith)
       ∙ add-one row in
       record {
         drawing = passed .0 ∙ ap (λ (k : ℕ). Block false 0 k) (add-one row);
         pattern = passed .1 ∙ (λ i. record { x = at .pattern i .x; y = step i });
       }
 
-  at-row : (row : ℕ) → row ≤ s .travel .figure .dimensions .y → row ≤ s .travel .pattern .map .height → AtRow row (after s (row * (s .travel .figure .dimensions .x + 1)) t)
+  at-row : (row : ℕ) → row ≤ s .travel .figure .dimensions .y → row ≤ ground s .height → AtRow row (after s (row * (s .travel .figure .dimensions .x + 1)) t)
   unfolding after
   at-row zero h v = rw (zero-mul (s .travel .figure .dimensions .x + 1)) (record { drawing = start; pattern = corner })
   at-row (suc row) h v =
@@ -69,15 +70,15 @@ module _ (s : Setup) (f : Fills s) (down : s .travel .course .y ≡ Forth) (t : 
       (next-row row (after s (row * (s .travel .figure .dimensions .x + 1)) t) (omega arith) (omega arith) (at-row row (omega arith) (omega arith)))
 
   -- 003, Area Fill: the foreground at a column and row, by the 1s of that row of the pattern
-  pub foreground-there : (x y : ℕ) → x ≤ s .travel .figure .dimensions .x → y ≤ s .travel .figure .dimensions .y → y ≤ s .travel .pattern .map .height
+  pub foreground-there : (x y : ℕ) → x ≤ s .travel .figure .dimensions .x → y ≤ s .travel .figure .dimensions .y → y ≤ ground s .height
       → isForeground s (after s (y * (s .travel .figure .dimensions .x + 1) + x) t .memory) (after s (y * (s .travel .figure .dimensions .x + 1) + x) t .pen)
-      ≡ isOdd (onesFrom (t .memory) (s .travel .pattern .map) (record { x = 0; y = y }) (suc x))
+      ≡ isOdd (onesFrom (t .memory) (ground s) (record { x = 0; y = y }) (suc x))
   foreground-there x y across h v =
       let before : ℕ = y * (s .travel .figure .dimensions .x + 1) in
       let u : Run = after s before t in
       let at = at-row y h v in
       rw (after-add s before x t)
       (foreground-at s f u y (at .drawing) (row-inside y (u .pen .pointers .pattern) v (at .pattern)) x across
-      ∙ ap (λ (p : Point). isOdd (onesFrom (u .memory) (s .travel .pattern .map) p (suc x))) (at .pattern)
+      ∙ ap (λ (p : Point). isOdd (onesFrom (u .memory) (ground s) p (suc x))) (at .pattern)
       ∙ ap isOdd
-      (ones-same (u .memory) (t .memory) (s .travel .pattern .map) (record { x = 0; y = y }) (λ column inside. pattern-after s f before t column y inside v) (suc x)))
+      (ones-same (u .memory) (t .memory) (ground s) (record { x = 0; y = y }) (λ column inside. pattern-after s f before t column y inside v) (suc x)))

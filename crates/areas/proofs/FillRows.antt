@@ -1,4 +1,4 @@
--- A row of a fill, position by position: the bit is odd with the 1s passed, because each position turns it at a 1 and no position writes what the pattern reads.
+-- A row of a fill, position by position: the bit is odd with the 1s passed, as each position turns it at a 1 and none writes what the pattern reads.
 use mathlib.Core.Path.{_≡_, refl, sym, ap, ap₂, _∙_}
 use mathlib.Core.Bool.{Bool, true, false, not}
 use Prim.Native.Nat.{ℕ, zero, suc, _+_, _≤_, _<_}
@@ -10,6 +10,7 @@ use Rattle.numbers.specs.Choose.{choose}
 use Rattle.numbers.specs.Circles.{forth}
 use Rattle.numbers.specs.Fields.{field}
 use Rattle.numbers.proofs.Choices.{choose-true, choose-false}
+use Rattle.pixels.specs.declared.Map.{Map}
 use Rattle.pixels.specs.Maps.{bitsOf, placeOf, shiftOf}
 use Rattle.pixels.specs.Pixels.{byteAt, pixelAt}
 use Rattle.parts.specs.declared.shapes.Point.{Point}
@@ -31,12 +32,16 @@ use Rattle.runs.proofs.RunLaws.{bytes-after}
 use Rattle.areas.specs.Fills.{isOdd, Apart, onesFrom}
 use Rattle.areas.proofs.Parities.{odd-turned}
 
+-- the pattern's map
+abbrev pub ground : Setup → Map
+ground s = s .travel .pattern .map
+
 -- a fill whose pattern map shares no byte with its destination map
 pub record Fills (s : Setup) : Type 0 where
   pub fills : s .brush .flow .fills ≡ true
   pub pattern : s .travel .pattern .used ≡ true
   pub right : s .travel .course .x ≡ Forth
-  pub apart : Apart (s .travel .pattern .map) (s .brush .destination)
+  pub apart : Apart (ground s) (s .brush .destination)
 
 -- ---- one position
 
@@ -44,7 +49,7 @@ module _ (s : Setup) (f : Fills s) where
   -- the bit is turned at a 1
   inside-here : (t : Run) (column row : ℕ) (before : Bool) → t .pen .drawing ≡ Block before column row
       → insideAt s (t .memory) (t .pen)
-      ≡ choose (not (eqb (pixelAt (t .memory) (s .travel .pattern .map) (t .pen .pointers .pattern .x) (t .pen .pointers .pattern .y)) 0)) (not before) before
+      ≡ choose (not (eqb (pixelAt (t .memory) (ground s) (t .pen .pointers .pattern .x) (t .pen .pointers .pattern .y)) 0)) (not before) before
   unfolding insideAt isOne insideOf
   inside-here t column row before e = rw (e, f .fills)
 
@@ -59,12 +64,12 @@ module _ (s : Setup) (f : Fills s) where
   foreground-here t = choose-true _ _ (f .pattern) ∙ choose-true _ _ (f .fills)
 
   -- the pixels of the pattern stay
-  pub pattern-after : (n : ℕ) (t : Run) (x y : ℕ) → x ≤ s .travel .pattern .map .width → y ≤ s .travel .pattern .map .height
-      → pixelAt (after s n t .memory) (s .travel .pattern .map) x y ≡ pixelAt (t .memory) (s .travel .pattern .map) x y
+  pub pattern-after : (n : ℕ) (t : Run) (x y : ℕ) → x ≤ ground s .width → y ≤ ground s .height
+      → pixelAt (after s n t .memory) (ground s) x y ≡ pixelAt (t .memory) (ground s) x y
   unfolding byteAt pixelAt Apart
   pattern-after n t x y h v =
-      ap (field (shiftOf (s .travel .pattern .map) x y) (bitsOf (s .travel .pattern .map .format)))
-      (bytes-after s (placeOf (s .travel .pattern .map) x y) (λ x' y' h' v'. f .apart x y x' y' h v h' v') n t)
+      ap (field (shiftOf (ground s) x y) (bitsOf (ground s .format)))
+      (bytes-after s (placeOf (ground s) x y) (λ x' y' h' v'. f .apart x y x' y' h v h' v') n t)
 
   -- ---- the move to the next column, and past the row's end
 
@@ -81,56 +86,57 @@ module _ (s : Setup) (f : Fills s) where
         ∙ ap (λ (d : Drawing). rowPassed (s .travel) d pen) (choose-true _ _ (lt-ltb row (s .travel .figure .dimensions .y) another))
 
   column-pattern : (d : Drawing) (pen : Pen)
-      → columnPassed (s .travel) d pen .pointers .pattern ≡ record { x = forth (s .travel .pattern .map .width + 1) 1 (pen .pointers .pattern .x); y = pen .pointers .pattern .y }
+      → columnPassed (s .travel) d pen .pointers .pattern
+      ≡ record { x = forth (ground s .width + 1) 1 (pen .pointers .pattern .x); y = pen .pointers .pattern .y }
   unfolding columnPassed penStepped pointStepped turnedBy
   column-pattern d pen =
-      choose-true _ _ (f .pattern) ∙ (λ i. record { x = turnedBy (f .right i) 1 (s .travel .pattern .map .width) (pen .pointers .pattern .x); y = pen .pointers .pattern .y })
+      choose-true _ _ (f .pattern) ∙ (λ i. record { x = turnedBy (f .right i) 1 (ground s .width) (pen .pointers .pattern .x); y = pen .pointers .pattern .y })
 
   row-pattern : (d : Drawing) (pen : Pen)
       → rowPassed (s .travel) d pen .pointers .pattern
       ≡ record {
-        x = turnedBy Back (s .travel .figure .dimensions .x) (s .travel .pattern .map .width) (pen .pointers .pattern .x);
-        y = turnedBy (s .travel .course .y) 1 (s .travel .pattern .map .height) (pen .pointers .pattern .y);
+        x = turnedBy Back (s .travel .figure .dimensions .x) (ground s .width) (pen .pointers .pattern .x);
+        y = turnedBy (s .travel .course .y) 1 (ground s .height) (pen .pointers .pattern .y);
       }
-  unfolding rowPassed rowPoint opposite
+  unfolding rowPassed rowPoint
   row-pattern d pen =
-      let y : ℕ = turnedBy (s .travel .course .y) 1 (s .travel .pattern .map .height) (pen .pointers .pattern .y) in
+      let y : ℕ = turnedBy (s .travel .course .y) 1 (ground s .height) (pen .pointers .pattern .y) in
       choose-true _ _ (f .pattern)
-      ∙ (λ i. record { x = turnedBy (opposite (f .right i)) (s .travel .figure .dimensions .x) (s .travel .pattern .map .width) (pen .pointers .pattern .x); y = y })
+      ∙ (λ i. record { x = turnedBy (opposite (f .right i)) (s .travel .figure .dimensions .x) (ground s .width) (pen .pointers .pattern .x); y = y })
 
 -- ---- the columns of a row
 
 -- the 1s that a row passes in its first n positions
 abbrev ones : Setup → Run → ℕ → ℕ
-ones s t n = onesFrom (t .memory) (s .travel .pattern .map) (t .pen .pointers .pattern) n
+ones s t n = onesFrom (t .memory) (ground s) (t .pen .pointers .pattern) n
 
 -- a run at column n of the row that began with the run t
 record AtColumn (s : Setup) (t : Run) (row n : ℕ) (u : Run) : Type 0 where
   drawing : u .pen .drawing ≡ Block (isOdd (ones s t n)) n row
-  x : u .pen .pointers .pattern .x ≡ forth (s .travel .pattern .map .width + 1) n (t .pen .pointers .pattern .x)
+  x : u .pen .pointers .pattern .x ≡ forth (ground s .width + 1) n (t .pen .pointers .pattern .x)
   y : u .pen .pointers .pattern .y ≡ t .pen .pointers .pattern .y
 
 module _ (s : Setup) (f : Fills s) (t : Run) (row : ℕ) (start : t .pen .drawing ≡ Block false 0 row)
-    (inside : isInside (s .travel .pattern .map) (t .pen .pointers .pattern) ≡ true) where
+    (inside : isInside (ground s) (t .pen .pointers .pattern) ≡ true) where
   -- the pen at column n, with the bit as it is after the pixel there
   abbrev here : ℕ → Pen
   here n = crossed s (after s n t .memory) (after s n t .pen)
 
   -- the pixel read at column n
   pixel-at : (n : ℕ) → AtColumn s t row n (after s n t)
-      → pixelAt (after s n t .memory) (s .travel .pattern .map) (after s n t .pen .pointers .pattern .x) (after s n t .pen .pointers .pattern .y)
-      ≡ pixelAt (t .memory) (s .travel .pattern .map) (forth (s .travel .pattern .map .width + 1) n (t .pen .pointers .pattern .x)) (t .pen .pointers .pattern .y)
+      → pixelAt (after s n t .memory) (ground s) (after s n t .pen .pointers .pattern .x) (after s n t .pen .pointers .pattern .y)
+      ≡ pixelAt (t .memory) (ground s) (forth (ground s .width + 1) n (t .pen .pointers .pattern .x)) (t .pen .pointers .pattern .y)
   pixel-at n at =
-      ap₂ (pixelAt (after s n t .memory) (s .travel .pattern .map)) (at .x) (at .y)
-      ∙ pattern-after s f n t _ _ (omega (arith, forth-lt (s .travel .pattern .map .width + 1) n (t .pen .pointers .pattern .x) (omega arith)))
-      (inside-y (s .travel .pattern .map) (t .pen .pointers .pattern) inside)
+      ap₂ (pixelAt (after s n t .memory) (ground s)) (at .x) (at .y)
+      ∙ pattern-after s f n t _ _ (omega (arith, forth-lt (ground s .width + 1) n (t .pen .pointers .pattern .x) (omega arith)))
+      (inside-y (ground s) (t .pen .pointers .pattern) inside)
 
   -- there the bit is turned as the 1s passed and the one there say
   turned-at : (n : ℕ) → AtColumn s t row n (after s n t) → insideAt s (after s n t .memory) (after s n t .pen) ≡ isOdd (ones s t (suc n))
   unfolding onesFrom
   turned-at n at =
       let passed : ℕ = ones s t n in
-      let there : ℕ = pixelAt (t .memory) (s .travel .pattern .map) (forth (s .travel .pattern .map .width + 1) n (t .pen .pointers .pattern .x)) (t .pen .pointers .pattern .y) in
+      let there : ℕ = pixelAt (t .memory) (ground s) (forth (ground s .width + 1) n (t .pen .pointers .pattern .x)) (t .pen .pointers .pattern .y) in
       inside-here s f (after s n t) n row (isOdd passed) (at .drawing)
       ∙ ap (λ (pixel : ℕ). choose (not (eqb pixel 0)) (not (isOdd passed)) (isOdd passed)) (pixel-at n at)
       ∙ odd-turned passed there
@@ -151,9 +157,9 @@ module _ (s : Setup) (f : Fills s) (t : Run) (row : ℕ) (start : t .pen .drawin
         drawing = ap (λ (p : Pen). p .drawing) to ∙ ap (λ (k : ℕ). Block (isOdd (ones s t (suc n))) k row) (add-one n);
         x =
             ap (λ (p : Point). p .x) pattern
-            ∙ ap (forth (s .travel .pattern .map .width + 1) 1) (at .x)
-            ∙ sym (forth-add (s .travel .pattern .map .width + 1) 1 n (t .pen .pointers .pattern .x))
-            ∙ ap (λ (k : ℕ). forth (s .travel .pattern .map .width + 1) k (t .pen .pointers .pattern .x)) (omega arith);
+            ∙ ap (forth (ground s .width + 1) 1) (at .x)
+            ∙ sym (forth-add (ground s .width + 1) 1 n (t .pen .pointers .pattern .x))
+            ∙ ap (λ (k : ℕ). forth (ground s .width + 1) k (t .pen .pointers .pattern .x)) (omega arith);
         y = ap (λ (p : Point). p .y) pattern ∙ at .y;
       }
 
@@ -162,31 +168,31 @@ module _ (s : Setup) (f : Fills s) (t : Run) (row : ℕ) (start : t .pen .drawin
   at-column zero h =
       record {
         drawing = start;
-        x = sym (turned-none (s .travel .pattern .map .width) Forth (t .pen .pointers .pattern .x) (inside-x (s .travel .pattern .map) (t .pen .pointers .pattern) inside));
+        x = sym (turned-none (ground s .width) Forth (t .pen .pointers .pattern .x) (inside-x (ground s) (t .pen .pointers .pattern) inside));
         y = refl;
       }
   at-column (suc n) h = let at = at-column n (omega arith) in rw (positioned-at n at) (next-column n (omega arith) at)
 
   -- 003, Area Fill: in a row the foreground is picked where the 1s passed, this one with them, are odd
   pub foreground-at : (n : ℕ) → n ≤ s .travel .figure .dimensions .x
-      → isForeground s (after s n t .memory) (after s n t .pen) ≡ isOdd (onesFrom (t .memory) (s .travel .pattern .map) (t .pen .pointers .pattern) (suc n))
+      → isForeground s (after s n t .memory) (after s n t .pen) ≡ isOdd (onesFrom (t .memory) (ground s) (t .pen .pointers .pattern) (suc n))
   foreground-at n h = foreground-here s f (after s n t) ∙ turned-at n (at-column n h)
 
   -- past its end the next row starts outside, at the pattern's first column and a row on
   pub row-after : row < s .travel .figure .dimensions .y
       → (after s (suc (s .travel .figure .dimensions .x)) t .pen .drawing ≡ Block false 0 (row + 1))
       × (after s (suc (s .travel .figure .dimensions .x)) t .pen .pointers .pattern
-      ≡ record { x = t .pen .pointers .pattern .x; y = turnedBy (s .travel .course .y) 1 (s .travel .pattern .map .height) (t .pen .pointers .pattern .y) })
-  unfolding positioned crossed penWith rowPassed opposite turnedBy
+      ≡ record { x = t .pen .pointers .pattern .x; y = turnedBy (s .travel .course .y) 1 (ground s .height) (t .pen .pointers .pattern .y) })
+  unfolding positioned crossed penWith rowPassed turnedBy
   row-after another =
       let last : ℕ = s .travel .figure .dimensions .x in
       let at = at-column last (omega arith) in
       let to = to-row s f (here last) last row (isOdd (ones s t (suc last))) (crossed-at last at) (omega arith) another in
       let pattern = ap (λ (p : Pen). p .pointers .pattern) to ∙ row-pattern s f (Block false 0 (row + 1)) (here last) in
-      let returned : turnedBy Back last (s .travel .pattern .map .width) (after s last t .pen .pointers .pattern .x) ≡ t .pen .pointers .pattern .x =
-      ap (turnedBy Back last (s .travel .pattern .map .width)) (at .x)
-      ∙ turned-return (s .travel .pattern .map .width) Forth last (t .pen .pointers .pattern .x) (inside-x (s .travel .pattern .map) (t .pen .pointers .pattern) inside) in
+      let returned : turnedBy Back last (ground s .width) (after s last t .pen .pointers .pattern .x) ≡ t .pen .pointers .pattern .x =
+      ap (turnedBy Back last (ground s .width)) (at .x)
+      ∙ turned-return (ground s .width) Forth last (t .pen .pointers .pattern .x) (inside-x (ground s) (t .pen .pointers .pattern) inside) in
       rw (positioned-at last at) (
         ap (λ (p : Pen). p .drawing) to,
-        pattern ∙ (λ i. record { x = returned i; y = turnedBy (s .travel .course .y) 1 (s .travel .pattern .map .height) (at .y i) }),
+        pattern ∙ (λ i. record { x = returned i; y = turnedBy (s .travel .course .y) 1 (ground s .height) (at .y i) }),
       )

@@ -1,5 +1,5 @@
--- A fill picks as foreground the positions with an odd number of 1s passed in their row: a valid record whose function is the fill obeys its start rules, so its
--- pattern is a map and it goes to the right.
+-- A fill picks as foreground the positions with an odd number of 1s passed in their row: a valid record whose function is the fill obeys its start
+-- rules, so its pattern is a map and it goes to the right.
 use mathlib.Core.Path.{_≡_, ap}
 use mathlib.Core.Bool.{true, false}
 use mathlib.Core.List.{List}

@@ -46,7 +46,7 @@ pub data Reached (s : Travel) : Turn → Drawing → Type 0 where
 
 module _ (s : Travel) where
   pub start-reached : (d : Drawing) → atStart d ≡ true → Reached s Stay d
-  unfolding atStart goesUp
+  unfolding atStart
   start-reached (Nothing stopped) e = none
   start-reached (Line rose done) e =
       let zeroth : done ≡ 0 = eqb-true done 0 (and-left (eqb done 0) (not rose) e) in
@@ -113,13 +113,12 @@ module _ (s : Travel) where
 
 -- on the line's way down it is the last of its run, on the way up the first; level neither
 down-run : (steps last : Bool) → (not last && movesRow (choose steps Forth Stay)) ≡ goesDown (choose (not last) (choose steps Forth Stay) Stay)
-unfolding movesRow goesDown
+unfolding goesDown
 down-run steps true = refl
 down-run true false = refl
 down-run false false = refl
 
 never-up : (steps : Bool) → goesUp (choose steps Forth Stay) ≡ false
-unfolding goesUp
 never-up true = refl
 never-up false = refl
 
@@ -136,14 +135,14 @@ level false = refl
 line-run : (way : Turn) (came goes last : Bool)
     → ofRun way (goesUp (choose came way Stay)) (not last && movesRow (choose goes way Stay))
     ≡ goesDown (choose (not last) (choose goes way Stay) Stay) || goesUp (choose came way Stay)
-unfolding ofRun goesDown goesUp
+unfolding goesDown
 line-run Stay came goes last = rw (level came, level goes, level (not last))
 line-run Forth came goes last = rw (never-up came, or-false) (down-run goes last)
 line-run Back came goes last = rw (never-down goes last)
 
 -- the first of a code, and one after it
 code-first : (way : Turn) (last : Bool) → ofRun way false (not last) ≡ goesDown (choose (not last) way Stay) || false
-unfolding ofRun goesDown
+unfolding goesDown
 code-first Stay last = rw (level (not last))
 code-first Forth true = refl
 code-first Forth false = refl
@@ -151,7 +150,7 @@ code-first Back true = refl
 code-first Back false = refl
 
 code-next : (way : Turn) (last : Bool) → ofRun way true (not last) ≡ goesDown (choose (not last) way Stay) || goesUp way
-unfolding ofRun goesDown goesUp
+unfolding goesDown
 code-next Stay last = rw (level (not last))
 code-next Forth true = refl
 code-next Forth false = refl
@@ -170,7 +169,7 @@ module _ (s : Travel) where
   -- a position is drawn where the turn that leaves it goes down, or the turn that led to it went up
   pub boundary-turns : (e : ℤ) {turn : Turn} {d : Drawing} → Reached s turn d → unfinished d ≡ true
       → onBoundary s e d ≡ goesDown (turnOf s e d) || goesUp turn
-  unfolding turnOf onBoundary isFirst isLast goesUp
+  unfolding turnOf onBoundary isFirst isLast
   boundary-turns e none going = absurd (false≢true going)
   boundary-turns e (line {done} steps within) going =
       rw (line-turn s e, another done (s .figure .dimensions .x) within) (line-run (s .course .y) steps (along s e) (eqb done (s .figure .dimensions .x)))

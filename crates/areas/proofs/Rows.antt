@@ -61,7 +61,7 @@ module _ (y : ℤ) where
 
   -- nor is it the row below one that is not a step up from it
   not-above : (t : Turn) → goesUp t ≡ false → y ≡ circledBy Forth 1 (circledBy t 1 y) → ⊥
-  unfolding goesUp turnedBy forth back
+  unfolding turnedBy forth back
   not-above t down e =
       by t down (ap (residue 8192) e ∙ residue-circled Forth 1 (circledBy t 1 y) ∙ ap (turnedBy Forth 1 8191) (residue-circled t 1 y))
     where
@@ -77,7 +77,7 @@ module _ (y : ℤ) where
   down-seen Back = same-false (circledBy Back 1 y) (circledBy Forth 1 y) (not-below Back refl)
 
   pub up-seen : OnCircle y → (t : Turn) → samePlace y (below (circledBy t 1 y)) ≡ goesUp t
-  unfolding goesUp below opposite
+  unfolding below
   up-seen on Stay = same-false y (circledBy Forth 1 (circledBy Stay 1 y)) (not-above Stay refl)
   up-seen on Forth = same-false y (circledBy Forth 1 (circledBy Forth 1 y)) (not-above Forth refl)
   up-seen on Back = rw (circled-return Back y on 1) (same-self y)

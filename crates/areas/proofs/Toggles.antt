@@ -182,7 +182,8 @@ module _ (s : Setup) (t : Toggles s) (memory : List ℕ) (pen : Pen) where
     elsewhere-kept on e =
         get-put-other memory (s .brush .destination) _ _ (mixedPixel s memory pen) x y (on-map (s .brush) pen on .0) across
         (λ both.
-        let row = on-row (s .brush .destination .height) (pen .pointers .destination .y) (and-right (isWithin (s .brush .destination .width) (placeX (s .brush) pen)) _ on) ∙ ap pos (both .1) in
+        let inside = and-right (isWithin (s .brush .destination .width) (placeX (s .brush) pen)) _ on in
+        let row = on-row (s .brush .destination .height) (pen .pointers .destination .y) inside ∙ ap pos (both .1) in
         false≢true
         (sym e ∙ and-both _ _ (eq-eqb _ x (ap columnOf (sym place) ∙ both .0)) (ap (λ (z : ℤ). samePlace z (pos y)) row ∙ same-self (pos y))))
 

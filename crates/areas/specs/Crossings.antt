@@ -21,7 +21,7 @@ penAfter t (suc n) pen = moved t (penAfter t n pen)
 abbrev pub rowAfter : Travel → ℕ → Pen → ℤ
 rowAfter t n pen = penAfter t n pen .pointers .destination .y
 
--- 01, Maps and pointers: the row below, on the destination't circle
+-- 01, Maps and pointers: the row below, on the destination's circle
 unfoldable pub below : ℤ → ℤ
 below y = circledBy Forth 1 y
 

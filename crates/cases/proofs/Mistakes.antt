@@ -25,10 +25,10 @@ use Rattle.rules.specs.Starts.{drawingStarted, pointersStarted, turned}
 use Rattle.moves.specs.Decoded.{courseOf, signOf, travelOf}
 use Rattle.moves.specs.Moves.{blockMoved, codePassed, codesMoved, columnPassed, destinationBy, lineError, lineMoved, moved, movedBy, penGone}
 use Rattle.moves.specs.Moves.{penStepped, penWith, rises, rowPassed, rowPoint, rowSpot, sourceBy}
-use Rattle.moves.specs.Steps.{codeStep, goesUp, lineStep, movesRow}
-use Rattle.moves.specs.Turns.{circledBy, opposite, pointStepped, spotStepped, turnedBy}
+use Rattle.moves.specs.Steps.{codeStep, lineStep}
+use Rattle.moves.specs.Turns.{circledBy, pointStepped, spotStepped, turnedBy}
 use Rattle.places.specs.Decoded.{brushOf, edgeOf, flowOf}
-use Rattle.places.specs.Places.{columnOf, inMask, isFirst, isLast, isMove, isNulled, isWithin, maskX, maskY, nulledBy, ofRun, onBoundary, onMap, placeX}
+use Rattle.places.specs.Places.{columnOf, inMask, isFirst, isLast, isMove, isNulled, isWithin, maskX, maskY, nulledBy, onBoundary, onMap, placeX}
 use Rattle.position.specs.Drawn.{crossed, drawn, drawnBy, inkOf, insideAt, isForeground, isOne, mixedPixel, picked, sourcePixel}
 use Rattle.position.specs.Fates.{destinationPixel, fateOf, isCompared, onZero}
 use Rattle.runs.specs.Runs.{after, begun, positioned, stepped}
@@ -59,7 +59,7 @@ unfolding numberOf byteOf partOf covers latchedBytes latched forth back residue 
     mapAt formatHolds endHolds isInside isMap isLine isCodes isBlock draws sourceIsColour usesSource usesPattern usesMask isSource isPattern
     fieldsHold mixesHold usedMaps formatsHold endsHold startRefusal turned codeAt drawingStarted signOf courseOf flowOf sourceBy destinationBy
     penStepped penWith penGone lineError lineMoved codePassed codesMoved columnPassed rowPoint rowSpot rowPassed blockMoved movedBy moved
-    lineStep codeStep opposite turnedBy circledBy pointStepped spotStepped sourcePixel isForeground inkOf picked mixedPixel drawnBy drawn
+    lineStep codeStep turnedBy circledBy pointStepped spotStepped sourcePixel isForeground inkOf picked mixedPixel drawnBy drawn
     destinationPixel onZero isCompared fateOf isWithin columnOf onMap maskX maskY inMask isMove isFirst isLast nulledBy isNulled begun
     positioned stepped after sizeHolds freshOf freshAnswer setupOf penOf withPen ranOf runRefusal runAnswer runMemory startRefusalOf mapsReduced
     pointersReduced reducedOf goesOn validOf stored startsBy started startedRefusal writeRefusal settledBy writeAnswer same zeros written
@@ -68,9 +68,9 @@ unfolding numberOf byteOf partOf covers latchedBytes latched forth back residue 
     filledByRows filledInPlace cutFill cutBoundary insideAtStart risenAtStart fillRefused lowestNumber unlistedByte codeZero maskBoundary
     firstCodeStops pointersTurned sizes noImage cutLine mistakes isOneBit countersOf drawingOf laid counterFields headFields mapFields
     mapsFields at mapFrom inkFrom pointFrom spotFrom mapsFrom termsFrom countersFrom bankOf fieldsOf imageOf loaded zeroCounters remains loads
-    saves saveRefusal saved loadAnswer valueAt readRefusal readAnswer le insideOf withInside isFill modeOf fillHolds edgeOf movesRow goesUp
-    rises placeX ofRun onBoundary isOne insideAt crossed takenOnto mapLatched termsLatched inkLatched compareLatched pointLatched spotLatched
-    coloursLatched figureLatched pointersLatched registersLatched coloursReduced figureReduced registersReduced selected others freshRegisters
-    withMoved pointersStarted travelOf brushOf depthOf mapValues otherValues valuesOf laidAt readFrom registerFields coloursFrom figureFrom
-    pointersFrom registersFrom
+    saves saveRefusal saved loadAnswer valueAt readRefusal readAnswer le insideOf withInside isFill modeOf fillHolds edgeOf rises placeX
+    onBoundary isOne insideAt crossed takenOnto mapLatched termsLatched inkLatched compareLatched pointLatched spotLatched coloursLatched
+    figureLatched pointersLatched registersLatched coloursReduced figureReduced registersReduced selected others freshRegisters withMoved
+    pointersStarted travelOf brushOf depthOf mapValues otherValues valuesOf laidAt readFrom registerFields coloursFrom figureFrom pointersFrom
+    registersFrom
 avoided = (refl, (refl, (refl, (refl, (refl, (refl, (refl, (refl, (refl, (refl, (refl, (refl, (refl, (refl, (refl, (refl, (refl, (refl, (refl, (refl, (refl, (refl, (refl, (refl, (refl, (refl, (refl, (refl, (refl, (refl, (refl, tt)))))))))))))))))))))))))))))))

@@ -44,7 +44,6 @@ valid-going c v going =
 
 pub valid-safe : (c : Coprocessor) → validOf c ≡ true → unfinished (c .drawing) ≡ true → Safe (setupOf c) (c .size) (penOf c)
 unfolding startRefusalOf fillHolds fieldsHold endsHold usedMaps usesMask usesSource sourceIsColour pointersHold setupOf penOf travelOf brushOf flowOf
-    readsSource
 valid-safe c v going =
     let g = valid-going c v going in
     let ends = accepted-holds _ _ _ (g .starts) .ends in

@@ -74,7 +74,7 @@ module _ (last : ℕ) where
 
   -- there and back
   pub turned-return : (t : Turn) (k x : ℕ) → x ≤ last → turnedBy (opposite t) k last (turnedBy t k last x) ≡ x
-  unfolding opposite turnedBy
+  unfolding turnedBy
   turned-return Stay k x h = refl
   turned-return Forth k x h = turn-back (last + 1) k x (omega arith) ∙ mod-eq-of-lt (omega arith)
   turned-return Back k x h = turn-forth (last + 1) k x (omega arith) ∙ mod-eq-of-lt (omega arith)

@@ -36,13 +36,13 @@ codeStep code =
     (record { x = Stay; y = Stay })
 
 -- 01, The functions: whether a step's part in Y moves it
-unfoldable pub movesRow : Turn → Bool
+abbrev pub movesRow : Turn → Bool
 movesRow Stay = false
 movesRow Forth = true
 movesRow Back = true
 
 -- 01, The functions: whether it moves it up, which lowers Y
-unfoldable pub goesUp : Turn → Bool
+abbrev pub goesUp : Turn → Bool
 goesUp Stay = false
 goesUp Forth = false
 goesUp Back = true

@@ -10,7 +10,7 @@ use Rattle.moves.specs.declared.Turn.the-variants.{Stay, Forth, Back}
 use Rattle.moves.specs.declared.Step.{Step}
 
 -- 01, The functions, PxBlt: the other way
-unfoldable pub opposite : Turn → Turn
+abbrev pub opposite : Turn → Turn
 opposite Stay = Stay
 opposite Forth = Back
 opposite Back = Forth

@@ -1,9 +1,14 @@
--- What a drawing mode leaves out, by the mode: of its three tests one is left, or none.
+-- What move codes and the drawing mode hold back: of a mode's three tests one is left, or none, and a move is told by the code that is drawn.
 use mathlib.Core.Path.{_≡_, refl}
 use mathlib.Core.Bool.{Bool, true, false, _&&_, _||_}
 use Prim.Native.Nat.{ℕ}
 use lib.Dec.{eqb}
 use borrow.Author.Tests.{ne-eqb}
+use Rattle.parts.specs.declared.drawing.Drawing.{Drawing}
+use Rattle.parts.specs.declared.drawing.Drawing.the-variants.{Nothing, Line, Codes, Block}
+use Rattle.moves.specs.declared.Travel.{Travel}
+use Rattle.places.specs.Places.{isMove}
+use Rattle.places.specs.Inner.{codeIn, movesBy}
 
 -- what first null, last null and an area boundary leave out
 abbrev left : ℕ → Bool → Bool → Bool → Bool
@@ -34,3 +39,10 @@ none-left false true true = refl
 none-left false true false = refl
 none-left false false true = refl
 none-left false false false = refl
+
+pub moves-by : (t : Travel) (d : Drawing) {code : ℕ} → code ≡ codeIn (t .figure .steps) d → movesBy code d ≡ isMove t d
+unfolding isMove
+moves-by t (Nothing stopped) e = refl
+moves-by t (Line rose done) e = refl
+moves-by t (Codes count code done) e = rw e
+moves-by t (Block inside column row) e = refl

@@ -71,7 +71,7 @@ isLast t (Block inside column row) = false
 
 -- 003, Area Boundary Drawing (lines 2024 to 2026): going up only the first of every horizontal run, going down only the last, going
 -- level none
-unfoldable pub ofRun : Turn → Bool → Bool → Bool
+abbrev pub ofRun : Turn → Bool → Bool → Bool
 ofRun Stay first last = false
 ofRun Forth first last = last
 ofRun Back first last = first

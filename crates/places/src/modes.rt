@@ -1,17 +1,15 @@
 // What move codes and the drawing mode hold back, asked by the kind of drawing first.
 
 ghost use mathlib.Core.Path.{_≡_};
-ghost use mathlib.Core.Bool.{true, false, not};
+ghost use mathlib.Core.Bool.{not};
 ghost use Prim.Native.Nat.{ℕ};
 ghost use lib.Dec.{eqb};
 ghost use lib.IntN.{ℤ};
 ghost use Rattle.rules.specs.Codes.{codeAt};
-ghost use Rattle.moves.specs.declared.Travel.{Travel};
 ghost use Rattle.moves.specs.Steps.{codeStep};
 ghost use Rattle.parts.specs.declared.drawing.Drawing.the-variants.{Line, Codes};
-ghost use Rattle.places.specs.declared.Setup.{Setup};
-ghost use Rattle.places.specs.Places.{ofRun, isMove, onBoundary, nulledBy};
-ghost use Rattle.places.specs.Inner.{codeIn};
+ghost use Rattle.places.specs.Places.{ofRun, onBoundary, nulledBy};
+ghost use Rattle.places.specs.Inner.{codeIn, areCodes, movesBy};
 use crate::Setup;
 use moves::Travel;
 use moves::Turn;
@@ -84,18 +82,6 @@ fn code_nulled(setup: Setup, code: u8, done: u16) -> bool
     }
 }
 
-// Whether nothing holds a position back, whatever its mode: one of a block.
-pub fn is_free(drawing: Drawing) -> bool
-    ensures { λ r. ⌜ (r ≡ true → (s : Setup) (e : ℤ) → (isMove (s .travel) drawing ≡ false) × (nulledBy s e drawing ≡ false)) ⌝ }
-{
-    match drawing {
-        Drawing::Nothing { .. } => false,
-        Drawing::Line { .. } => false,
-        Drawing::Codes { .. } => false,
-        Drawing::Block { .. } => true,
-    }
-}
-
 // The code that is drawn, 0 where none is.
 pub fn code_in(steps: u32, drawing: Drawing) -> u8
     ensures { λ r. ⌜ r ≡ codeIn steps drawing ⌝ }
@@ -108,16 +94,23 @@ pub fn code_in(steps: u32, drawing: Drawing) -> u8
     }
 }
 
-// Whether a position of this code only moves, as one of a code without bit 4 does.
-pub fn is_move(code: u8, drawing: Drawing) -> bool
-    ensures { λ r. ⌜ ((t : Travel) → code ≡ codeIn (t .figure .steps) drawing → r ≡ isMove t drawing) ⌝ }
+// Whether codes are drawn.
+fn are_codes(drawing: Drawing) -> bool
+    ensures { λ r. ⌜ r ≡ areCodes drawing ⌝ }
 {
     match drawing {
         Drawing::Nothing { .. } => false,
         Drawing::Line { .. } => false,
-        Drawing::Codes { .. } => code / 16 % 2 == 0,
+        Drawing::Codes { .. } => true,
         Drawing::Block { .. } => false,
     }
+}
+
+// Whether a position of this code only moves, as one of a code without bit 4 does.
+pub fn is_move(code: u8, drawing: Drawing) -> bool
+    ensures { λ r. ⌜ r ≡ movesBy code drawing ⌝ }
+{
+    are_codes(drawing) & (code / 16 % 2 == 0)
 }
 
 // Whether the drawing mode leaves out a position, of this code where one is drawn.

@@ -13,12 +13,11 @@ use Rattle.moves.specs.declared.Pen.{Pen}
 use Rattle.moves.specs.Moves.{penWith}
 use Rattle.places.specs.declared.Setup.{Setup}
 use Rattle.places.specs.Places.{onMap, inMask, isMove, isNulled}
-use Rattle.position.specs.declared.Fate.{Fate}
-use Rattle.position.specs.declared.Fate.the-variants.{Moved, Nulled, OutsideMap, OutsideMask, MaskZero, Compared, Painted}
 use Rattle.position.specs.Fates.{destinationPixel, onZero, isCompared, fateOf}
-use Rattle.position.specs.Drawn.{sourcePixel, isOne, insideAt, crossed, isForeground, inkOf, picked, mixedPixel, drawnBy, drawn}
+use Rattle.position.specs.Drawn.{sourcePixel, isOne, insideAt, crossed, isForeground, inkOf, picked, mixedPixel, drawn}
 use Rattle.position.specs.Within.{Within}
-use Rattle.position.proofs.Writing.{judged, fated-same, open-inside, painted-open}
+use Rattle.position.specs.Inner.{isPainted}
+use Rattle.position.proofs.Writing.{fated, judged, open-inside, painted-open, put, drawn-by}
 use Rattle.position.proofs.Safety.{derived-reads, picked-reads}
 
 -- a choice of which one side is asked for only where its test holds
@@ -83,27 +82,32 @@ module _ (s : Setup) (memory rest : List ℕ) (pen : Pen) (h : Within s (length 
     unfolding isCompared
     compared-behind = rw destination-behind
 
-    painted-behind : drawnBy Painted s (memory ++ rest) pen ≡ drawnBy Painted s memory pen ++ rest
-    unfolding drawnBy mixedPixel inkOf
-    painted-behind =
+    put-behind : put s (memory ++ rest) pen ≡ put s memory pen ++ rest
+    unfolding mixedPixel inkOf
+    put-behind =
         rw (destination-behind, picked-behind, foreground-behind)
         (put-append memory (s .brush .destination) _ _ _ rest (h .destination on inside))
 
   fate-behind : fateOf s (memory ++ rest) pen ≡ fateOf s memory pen
   unfolding fateOf
-  fate-behind =
-      fated-same (isMove (s .travel) (pen .drawing)) (isNulled s pen) (onMap (s .brush) pen) (inMask (s .brush) pen) _ _
-      (λ on inside. ap₂ judged (zero-behind on inside) (compared-behind on inside))
+  fate-behind = by (isMove (s .travel) (pen .drawing)) (isNulled s pen) (onMap (s .brush) pen) (inMask (s .brush) pen) refl refl
+    where
+      by : (moves nulled on inside : Bool) → onMap (s .brush) pen ≡ on → inMask (s .brush) pen ≡ inside
+          → fated moves nulled on inside (judged s (memory ++ rest) pen) ≡ fated moves nulled on inside (judged s memory pen)
+      by true nulled on inside o i = refl
+      by false true on inside o i = refl
+      by false false false inside o i = refl
+      by false false true false o i = refl
+      by false false true true o i = rw (zero-behind o i, compared-behind o i)
 
   pub drawn-append : drawn s (memory ++ rest) pen ≡ drawn s memory pen ++ rest
-  unfolding drawnBy drawn
-  drawn-append = rw fate-behind (by (fateOf s memory pen) refl)
+  unfolding drawn
+  drawn-append =
+      let f = fateOf s memory pen in
+      rw (fate-behind, drawn-by s (memory ++ rest) pen f, drawn-by s memory pen f)
+      (by (isPainted f) (λ painted. let on = open-inside s memory pen (painted-open s memory pen painted .0) in put-behind (on .0) (on .1)))
     where
-      by : (f : Fate) → fateOf s memory pen ≡ f → drawnBy f s (memory ++ rest) pen ≡ drawnBy f s memory pen ++ rest
-      by Moved e = refl
-      by Nulled e = refl
-      by OutsideMap e = refl
-      by OutsideMask e = refl
-      by MaskZero e = refl
-      by Compared e = refl
-      by Painted e = let on = open-inside s pen (painted-open s memory pen e .0) in painted-behind (on .0) (on .1)
+      by : (t : Bool) → (t ≡ true → put s (memory ++ rest) pen ≡ put s memory pen ++ rest)
+          → choose t (put s (memory ++ rest) pen) (memory ++ rest) ≡ choose t (put s memory pen) memory ++ rest
+      by true same = same refl
+      by false same = refl

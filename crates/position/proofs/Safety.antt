@@ -32,7 +32,6 @@ use Rattle.position.proofs.Writing.{on-map}
 
 -- a pattern made from the source, and a colour taken from it, read the source pixel
 pub derived-reads : (flow : Flow) → flow .derived ≡ true → readsSource flow ≡ true
-unfolding readsSource
 derived-reads flow e = by (flow .foreground) (flow .background) (flow .derived) e
   where
     by : (f b d : Bool) → d ≡ true → (f || b || d) ≡ true
@@ -41,7 +40,6 @@ derived-reads flow e = by (flow .foreground) (flow .background) (flow .derived) 
     by false false d e = e
 
 pub picked-reads : (flow : Flow) (foreground : Bool) → choose foreground (flow .foreground) (flow .background) ≡ true → readsSource flow ≡ true
-unfolding readsSource
 picked-reads flow foreground = by foreground (flow .foreground) (flow .background) (flow .derived)
   where
     by : (t f b d : Bool) → choose t f b ≡ true → (f || b || d) ≡ true

@@ -12,12 +12,22 @@ use Rattle.moves.specs.Inner.{pointersInside}
 use Rattle.places.specs.declared.Setup.{Setup}
 use Rattle.places.specs.Places.{columnOf, placeX, onMap, inMask, isMove, isNulled}
 use Rattle.position.specs.declared.Fate.{Fate}
-use Rattle.position.specs.declared.Fate.the-variants.{Moved, Nulled, OutsideMap, OutsideMask, Painted}
+use Rattle.position.specs.declared.Fate.the-variants.{Moved, Nulled, OutsideMap, OutsideMask, MaskZero, Compared, Painted}
 use Rattle.position.specs.declared.Pattern.{Pattern}
 use Rattle.position.specs.declared.Sight.{Sight}
 use Rattle.position.specs.Fates.{destinationPixel, onZero}
 use Rattle.position.specs.Drawn.{sourcePixel, isOne, insideAt}
 use Rattle.position.specs.Within.{readsSource}
+
+-- whether a fate writes
+abbrev pub isPainted : Fate → Bool
+isPainted Moved = false
+isPainted Nulled = false
+isPainted OutsideMap = false
+isPainted OutsideMask = false
+isPainted MaskZero = false
+isPainted Compared = false
+isPainted Painted = true
 
 -- the pattern as it is read: its map's pixel, in a fill whether that is inside then, and 1 where the map is not used
 unfoldable pub patternRead : Setup → List ℕ → Pen → Pattern
@@ -31,10 +41,6 @@ patternRead s memory pen =
 unfoldable pub sourceRead : Setup → List ℕ → Pen → ℕ
 sourceRead s memory pen = choose (readsSource (s .brush .flow)) (sourcePixel (s .travel) memory pen) 0
 
--- what becomes of a position wherever it is
-unfoldable pub heldOf : Setup → Pen → Fate
-heldOf s pen = choose (isMove (s .travel) (pen .drawing)) Moved (choose (isNulled s pen) Nulled Painted)
-
 -- what becomes of a position as far as no memory tells
 unfoldable pub foreseenOf : Setup → Pen → Fate
 foreseenOf s pen =
@@ -44,15 +50,18 @@ foreseenOf s pen =
     (choose (not (inMask (s .brush) pen)) OutsideMask
     Painted)))
 
--- this is what a position finds in a memory: of mask and destination where it may be painted, and of the destination where the mask lets it
+-- this is what a painted position finds of its destination and its source
+pub record Target (s : Setup) (memory : List ℕ) (pen : Pen) (sight : Sight) : Type 0 where
+  pub cell : sight .cell ≡ cellAt memory (s .brush .destination) (columnOf (placeX (s .brush) pen)) (columnOf (pen .pointers .destination .y))
+  pub pixel : sight .pixel ≡ destinationPixel (s .brush) memory pen
+  pub source : sight .source ≡ sourceRead s memory pen
+
+-- this is what a position finds in a memory: the mask where it may be painted, and the target where the mask lets it
 pub record Seen (s : Setup) (memory : List ℕ) (pen : Pen) (sight : Sight) : Type 0 where
   pub pattern : sight .pattern ≡ patternRead s memory pen
-  pub source : sight .source ≡ sourceRead s memory pen
   pub foreseen : sight .foreseen ≡ foreseenOf s pen
-  pub zero : foreseenOf s pen ≡ Painted → sight .zero ≡ onZero (s .brush) memory pen
-  pub cell : foreseenOf s pen ≡ Painted → onZero (s .brush) memory pen ≡ false
-      → sight .cell ≡ cellAt memory (s .brush .destination) (columnOf (placeX (s .brush) pen)) (columnOf (pen .pointers .destination .y))
-  pub pixel : foreseenOf s pen ≡ Painted → onZero (s .brush) memory pen ≡ false → sight .pixel ≡ destinationPixel (s .brush) memory pen
+  pub zero : isPainted (foreseenOf s pen) ≡ true → sight .zero ≡ onZero (s .brush) memory pen
+  pub target : isPainted (foreseenOf s pen) ≡ true → onZero (s .brush) memory pen ≡ false → Target s memory pen sight
 
 -- every used map ends within a memory of this size, and used source and pattern pointers lie in theirs: what every move keeps
 pub record Safe (s : Setup) (size : ℕ) (pen : Pen) : Type 0 where

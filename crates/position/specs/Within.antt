@@ -9,7 +9,7 @@ use Rattle.places.specs.declared.Setup.{Setup}
 use Rattle.places.specs.Places.{columnOf, placeX, onMap, maskX, maskY, inMask}
 
 -- 01, One position: the source pixel is read where a source field is 10 or the pattern is 9
-unfoldable pub readsSource : Flow → Bool
+abbrev pub readsSource : Flow → Bool
 readsSource flow = flow .foreground || flow .background || flow .derived
 
 -- 02, 108; docs/DECISIONS.md, 6: each pixel that a position reads or writes lies, by its byte, in a memory of this size: pattern and

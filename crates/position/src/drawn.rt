@@ -6,7 +6,7 @@ ghost use lib.ListN.{length};
 ghost use Rattle.mixes.specs.Inner.{Cut};
 ghost use Rattle.position.specs.Drawn.{insideAt, drawn};
 ghost use Rattle.position.specs.Within.{Within};
-use crate::Fate;
+use crate::judge::is_painted;
 use crate::judge::judge;
 use crate::look::look;
 use crate::write::write;
@@ -24,7 +24,7 @@ pub fn draw(setup: Setup, memory: &mut [u8], pen: Pen) -> bool
     let sight = look(setup, memory, pen);
     let inside = sight.pattern.inside;
     let fate = judge(setup, sight);
-    if let Fate::Painted = fate {
+    if is_painted(fate) {
         write(setup, memory, sight);
     }
     inside

@@ -7,7 +7,7 @@ ghost use Rattle.mixes.specs.Conditions.{conditionHolds};
 ghost use Rattle.mixes.specs.Inner.{Cut};
 ghost use Rattle.moves.specs.declared.Pen.{Pen};
 ghost use Rattle.position.specs.Fates.{fateOf};
-ghost use Rattle.position.specs.Inner.{heldOf, foreseenOf, Seen};
+ghost use Rattle.position.specs.Inner.{isPainted, foreseenOf, Seen};
 use crate::Fate;
 use crate::Sight;
 use mixes::conditions::holds;
@@ -15,20 +15,31 @@ use moves::Pen;
 use places::Brush;
 use places::Setup;
 use places::modes::code_in;
-use places::modes::is_free;
 use places::modes::is_move;
 use places::modes::is_nulled;
 use places::places::in_mask;
 use places::places::on_map;
 
-// What becomes of a position wherever it is: what move codes and the drawing mode hold back.
-fn hold(setup: Setup, pen: Pen) -> Fate
-    ensures { λ r. ⌜ r ≡ heldOf setup pen ⌝ }
+// Whether a fate writes.
+pub(crate) fn is_painted(fate: Fate) -> bool
+    ensures { λ r. ⌜ r ≡ isPainted fate ⌝ }
+{
+    match fate {
+        Fate::Moved => false,
+        Fate::Nulled => false,
+        Fate::OutsideMap => false,
+        Fate::OutsideMask => false,
+        Fate::MaskZero => false,
+        Fate::Compared => false,
+        Fate::Painted => true,
+    }
+}
+
+// What becomes of a position as far as no memory tells.
+pub(crate) fn foresee(setup: Setup, pen: Pen) -> Fate
+    ensures { λ r. ⌜ r ≡ foreseenOf setup pen ⌝ }
 {
     let drawing = pen.drawing;
-    if is_free(drawing) {
-        return Fate::Painted;
-    }
     let code = code_in(setup.travel.figure.steps, drawing);
     if is_move(code, drawing) {
         return Fate::Moved;
@@ -36,23 +47,13 @@ fn hold(setup: Setup, pen: Pen) -> Fate
     if is_nulled(setup, code, pen.e, drawing) {
         return Fate::Nulled;
     }
-    Fate::Painted
-}
-
-// What becomes of a position as far as no memory tells.
-pub(crate) fn foresee(setup: Setup, pen: Pen) -> Fate
-    ensures { λ r. ⌜ r ≡ foreseenOf setup pen ⌝ }
-{
-    let held = hold(setup, pen);
-    if let Fate::Painted = held {
-        if !on_map(setup.brush, pen) {
-            return Fate::OutsideMap;
-        }
-        if !in_mask(setup.brush, pen) {
-            return Fate::OutsideMask;
-        }
+    if !on_map(setup.brush, pen) {
+        return Fate::OutsideMap;
     }
-    held
+    if !in_mask(setup.brush, pen) {
+        return Fate::OutsideMask;
+    }
+    Fate::Painted
 }
 
 // Whether the compare condition is true of a destination pixel.
@@ -75,13 +76,14 @@ pub(crate) fn judge(setup: Setup, sight: Sight) -> Fate
     ensures { λ r. ⌜ ((memory : List ℕ) (pen : Pen) → Seen setup memory pen sight → r ≡ fateOf setup memory pen) ⌝ }
 {
     let foreseen = sight.foreseen;
-    if let Fate::Painted = foreseen {
-        if sight.zero {
-            return Fate::MaskZero;
-        }
-        if is_compared(setup.brush, sight.pixel) {
-            return Fate::Compared;
-        }
+    if !is_painted(foreseen) {
+        return foreseen;
     }
-    foreseen
+    if sight.zero {
+        return Fate::MaskZero;
+    }
+    if is_compared(setup.brush, sight.pixel) {
+        return Fate::Compared;
+    }
+    Fate::Painted
 }

@@ -23,13 +23,13 @@ struct Pattern {
     inside: bool,
 }
 
-// What a position finds: its pattern and its source pixel; what becomes of it as far as no memory tells; and where it may be painted
-// whether the mask pixel is 0, and if not, the destination's cell and pixel.
+// What a position finds: its pattern; what becomes of it as far as no memory tells; where it may be painted whether the mask pixel is
+// 0; and where that is not, the destination's cell and pixel, and the source pixel.
 struct Sight {
     pattern: Pattern,
-    source: u32,
     foreseen: Fate,
     zero: bool,
     cell: Cell,
     pixel: u32,
+    source: u32,
 }

@@ -1,4 +1,4 @@
-// All that a position reads, in this order: pattern, source, mask, destination.
+// All that a position reads: its pattern always, and where it may be painted the mask, and then the destination and the source.
 
 ghost use mathlib.Core.Path.{_≡_};
 ghost use mathlib.Core.Bool.{true, not};
@@ -15,6 +15,7 @@ use crate::Fate;
 use crate::Pattern;
 use crate::Sight;
 use crate::judge::foresee;
+use crate::judge::is_painted;
 use moves::Pen;
 use parts::drawing::Drawing;
 use parts::drawing::is_inside;
@@ -115,8 +116,8 @@ fn destination_cell(setup: Setup, memory: &[u8], pen: Pen) -> Cell
 }
 
 // A sight of no destination.
-fn blank(pattern: Pattern, source: u32, foreseen: Fate, zero: bool) -> Sight
-    ensures { λ r. ⌜ (r .pattern ≡ pattern) × (r .source ≡ source) × (r .foreseen ≡ foreseen) × (r .zero ≡ zero) ⌝ }
+fn blank(pattern: Pattern, foreseen: Fate, zero: bool) -> Sight
+    ensures { λ r. ⌜ (r .pattern ≡ pattern) × (r .foreseen ≡ foreseen) × (r .zero ≡ zero) ⌝ }
 {
     let cell = Cell {
         at: 0,
@@ -126,11 +127,11 @@ fn blank(pattern: Pattern, source: u32, foreseen: Fate, zero: bool) -> Sight
     };
     Sight {
         pattern,
-        source,
         foreseen,
         zero,
         cell,
         pixel: 0,
+        source: 0,
     }
 }
 
@@ -140,21 +141,21 @@ pub(crate) fn look(setup: Setup, memory: &[u8], pen: Pen) -> Sight
     ensures { λ r. ⌜ Seen setup (now (memory .entry)) pen r ⌝ }
 {
     let pattern = pattern_read(setup, memory, pen);
-    let source = source_read(setup, memory, pen);
     let foreseen = foresee(setup, pen);
-    if let Fate::Painted = foreseen {
-        if is_on_zero(setup, memory, pen) {
-            return blank(pattern, source, foreseen, true);
-        }
-        let cell = destination_cell(setup, memory, pen);
-        return Sight {
-            pattern,
-            source,
-            foreseen,
-            zero: false,
-            cell,
-            pixel: value(cell),
-        };
+    if !is_painted(foreseen) {
+        return blank(pattern, foreseen, false);
     }
-    blank(pattern, source, foreseen, false)
+    if is_on_zero(setup, memory, pen) {
+        return blank(pattern, foreseen, true);
+    }
+    let cell = destination_cell(setup, memory, pen);
+    let source = source_read(setup, memory, pen);
+    Sight {
+        pattern,
+        foreseen,
+        zero: false,
+        cell,
+        pixel: value(cell),
+        source,
+    }
 }

@@ -1,16 +1,16 @@
 // What a painted position writes, from what it found.
 
 ghost use mathlib.Core.Path.{_≡_};
+ghost use mathlib.Core.Bool.{true};
 ghost use mathlib.Core.List.{List};
 ghost use Prim.Native.Nat.{ℕ, _+_, _≤_, _<_};
 ghost use lib.ListN.{length};
 ghost use Rattle.numbers.specs.Choose.{choose};
 ghost use Rattle.mixes.specs.Inner.{Cut};
 ghost use Rattle.moves.specs.declared.Pen.{Pen};
-ghost use Rattle.position.specs.declared.Fate.the-variants.{Painted};
-ghost use Rattle.position.specs.Fates.{fateOf, destinationPixel};
-ghost use Rattle.position.specs.Drawn.{isForeground, mixedPixel, drawnBy};
-ghost use Rattle.position.specs.Inner.{Seen};
+ghost use Rattle.position.specs.Fates.{fateOf};
+ghost use Rattle.position.specs.Drawn.{isForeground, mixedPixel, drawn};
+ghost use Rattle.position.specs.Inner.{isPainted, Target, Seen};
 use crate::Sight;
 use mixes::mix;
 use parts::shapes::Colours;
@@ -21,7 +21,8 @@ use places::Setup;
 
 // Whether the pattern is 1: its map's pixel, in a fill where that is inside, the source pixel where it is derived, and otherwise always.
 fn is_foreground(setup: Setup, sight: Sight) -> bool
-    ensures { λ r. ⌜ ((memory : List ℕ) (pen : Pen) → Seen setup memory pen sight → r ≡ isForeground setup memory pen) ⌝ }
+    ensures { λ r.
+        ⌜ ((memory : List ℕ) (pen : Pen) → Seen setup memory pen sight → Target setup memory pen sight → r ≡ isForeground setup memory pen) ⌝ }
 {
     if setup.travel.pattern.used {
         return sight.pattern.one;
@@ -69,8 +70,7 @@ fn picked(flow: Flow, foreground: bool, source: u32, colour: u32) -> u32
 fn mixed_pixel(setup: Setup, sight: Sight) -> u32
     requires { ⌜ Cut (setup .brush .depth) ⌝ }
     ensures { λ r.
-        ⌜ ((memory : List ℕ) (pen : Pen) → Seen setup memory pen sight → sight .pixel ≡ destinationPixel (setup .brush) memory pen
-        → r ≡ mixedPixel setup memory pen) ⌝ }
+        ⌜ ((memory : List ℕ) (pen : Pen) → Seen setup memory pen sight → Target setup memory pen sight → r ≡ mixedPixel setup memory pen) ⌝ }
 {
     let foreground = is_foreground(setup, sight);
     let ink = ink_of(setup.brush.colours, foreground);
@@ -86,8 +86,8 @@ fn mixed_pixel(setup: Setup, sight: Sight) -> u32
 pub(crate) fn write(setup: Setup, memory: &mut [u8], sight: Sight)
     requires { ⌜ Cut (setup .brush .depth) × (sight .cell .shift + sight .cell .bits ≤ 8) × (sight .cell .at < length (now memory)) ⌝ }
     ensures { λ _.
-        ⌜ ((pen : Pen) → Seen setup (now (memory .entry)) pen sight → fateOf setup (now (memory .entry)) pen ≡ Painted
-        → now (memory .exit) ≡ drawnBy Painted setup (now (memory .entry)) pen) ⌝ }
+        ⌜ ((pen : Pen) → Seen setup (now (memory .entry)) pen sight → isPainted (fateOf setup (now (memory .entry)) pen) ≡ true
+        → now (memory .exit) ≡ drawn setup (now (memory .entry)) pen) ⌝ }
 {
     let new = mixed_pixel(setup, sight);
     let cell = sight.cell;

@@ -27,7 +27,7 @@ use Rattle.moves.specs.Decoded.{courseOf, signOf, travelOf}
 use Rattle.moves.specs.Moves.{blockMoved, codePassed, codesMoved, columnPassed, destinationBy, lineError, lineMoved, moved, movedBy, penGone}
 use Rattle.moves.specs.Moves.{penStepped, penWith, rises, rowPassed, rowPoint, rowSpot, sourceBy}
 use Rattle.moves.specs.Steps.{codeStep, lineStep}
-use Rattle.moves.specs.Turns.{circledBy, opposite, pointStepped, spotStepped, turnedBy}
+use Rattle.moves.specs.Turns.{circledBy, pointStepped, spotStepped, turnedBy}
 use Rattle.places.specs.Decoded.{brushOf, edgeOf, flowOf}
 use Rattle.places.specs.Places.{columnOf, inMask, isFirst, isLast, isMove, isNulled, isWithin, maskX, maskY, nulledBy, onMap, placeX}
 use Rattle.position.specs.Drawn.{crossed, drawn, drawnBy, inkOf, insideAt, isForeground, isOne, mixedPixel, picked, sourcePixel}
@@ -48,7 +48,7 @@ unfolding numberOf byteOf partOf covers latchedBytes latched forth back residue 
     mapAt formatHolds endHolds isInside isMap isLine isCodes isBlock draws sourceIsColour usesSource usesPattern usesMask isSource isPattern
     fieldsHold mixesHold usedMaps formatsHold endsHold startRefusal turned codeAt drawingStarted signOf courseOf flowOf sourceBy destinationBy
     penStepped penWith penGone lineError lineMoved codePassed codesMoved columnPassed rowPoint rowSpot rowPassed blockMoved movedBy moved
-    lineStep codeStep opposite turnedBy circledBy pointStepped spotStepped sourcePixel isForeground inkOf picked mixedPixel drawnBy drawn
+    lineStep codeStep turnedBy circledBy pointStepped spotStepped sourcePixel isForeground inkOf picked mixedPixel drawnBy drawn
     destinationPixel onZero isCompared fateOf isWithin columnOf onMap maskX maskY inMask isMove isFirst isLast nulledBy isNulled begun
     positioned stepped after sizeHolds freshOf freshAnswer setupOf penOf withPen ranOf runRefusal runAnswer runMemory startRefusalOf mapsReduced
     pointersReduced reducedOf goesOn validOf stored startsBy started startedRefusal writeRefusal settledBy writeAnswer same written answers

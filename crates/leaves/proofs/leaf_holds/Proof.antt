@@ -14,9 +14,6 @@ held : (c : tie.After-holds) → let a = c .before .before .before .args in
 unfolding depthOf
 held c = rw (c .holds .ensures, c .before .depth-of .ensures) (holds-planes _ _ _ _ _)
 
-depth-of-requires : tie.Need-depth-of-requires
-depth-of-requires c κs = search needs
-
 holds-requires : tie.Need-holds-requires
 holds-requires c κs = rw (c .depth-of .ensures) (depth-cut _ _ (c .before .if1 .taken))
 
@@ -30,4 +27,4 @@ returns-3 : tie.Need-returns-3
 returns-3 c = simp (lt-leb _ _ (c .if1 .left))
 
 pub leaf-holds-spec : {M : Type 1} → statement M
-leaf-holds-spec = tie.close (tie.spec depth-of-requires holds-requires returns returns-2 returns-3)
+leaf-holds-spec = tie.close (tie.spec (λ c κs. search needs) holds-requires returns returns-2 returns-3)

@@ -8,9 +8,6 @@ use Rattle.mixes.proofs.Depths.{depth-cut}
 use Rattle.leaves.proofs.leaf_mix.Statement.{statement}
 use Rattle.leaves.proofs.leaf_mix.Tie as tie
 
-depth-of-requires : tie.Need-depth-of-requires
-depth-of-requires c κs = search needs
-
 mix-requires : tie.Need-mix-requires
 mix-requires c κs = rw (c .depth-of .ensures) (depth-cut _ _ (c .before .if1 .taken))
 
@@ -22,4 +19,4 @@ returns-2 : tie.Need-returns-2
 returns-2 c = simp (lt-leb _ _ (c .if1 .left))
 
 pub leaf-mix-spec : {M : Type 1} → statement M
-leaf-mix-spec = tie.close (tie.spec depth-of-requires mix-requires returns returns-2)
+leaf-mix-spec = tie.close (tie.spec (λ c κs. search needs) mix-requires returns returns-2)

@@ -6,27 +6,6 @@ use borrow.Author.Needs.{needs}
 use Rattle.moves.proofs.decoded.travel_of.Statement.{statement}
 use Rattle.moves.proofs.decoded.travel_of.Tie as tie
 
-course-of-requires : tie.Need-course-of-requires
-course-of-requires c κs = search needs
-
-uses-source-requires : tie.Need-uses-source-requires
-uses-source-requires c κs = search needs
-
-source-field-requires : tie.Need-source-field-requires
-source-field-requires c κs = search needs
-
-map-at-requires : tie.Need-map-at-requires
-map-at-requires c κs = search needs
-
-uses-pattern-requires : tie.Need-uses-pattern-requires
-uses-pattern-requires c κs = search needs
-
-pattern-field-requires : tie.Need-pattern-field-requires
-pattern-field-requires c κs = search needs
-
-map-at-requires-2 : tie.Need-map-at-requires-2
-map-at-requires-2 c κs = search needs
-
 returns : tie.Need-returns
 unfolding travelOf
 returns c =
@@ -48,11 +27,11 @@ pub travel-of-spec : {M : Type 1} → statement M
 travel-of-spec =
     tie.close
     (tie.spec
-    course-of-requires
-    uses-source-requires
-    source-field-requires
-    map-at-requires
-    uses-pattern-requires
-    pattern-field-requires
-    map-at-requires-2
+    (λ c κs. search needs)
+    (λ c κs. search needs)
+    (λ c κs. search needs)
+    (λ c κs. search needs)
+    (λ c κs. search needs)
+    (λ c κs. search needs)
+    (λ c κs. search needs)
     returns)

@@ -15,26 +15,11 @@ known : (c : tie.After-way-of) {w : Way} → let a = c .before .args in
     c .way-of .result ≡ w → wentBy (a .travel) w (a .pen) ≡ moved (a .travel) (penWith (withInside (a .inside) (a .pen .drawing)) (a .pen))
 known c e = ap (λ w. wentBy (c .before .args .travel) w (c .before .args .pen)) (sym e) ∙ c .way-of .ensures
 
-way-of-requires : tie.Need-way-of-requires
-way-of-requires c κs = search needs
-
-enum-known-way : tie.Need-enum-known-way
-enum-known-way c = search needs
-
 step-pen-requires : tie.Need-step-pen-requires
 step-pen-requires c κs = c .before .before .before .before .pre
 
-enum-known-way-2 : tie.Need-enum-known-way-2
-enum-known-way-2 c = search needs
-
 pass-row-requires : tie.Need-pass-row-requires
 pass-row-requires c κs = c .before .before .before .before .pre
-
-enum-known-way-3 : tie.Need-enum-known-way-3
-enum-known-way-3 c = search needs
-
-pen-with-requires : tie.Need-pen-with-requires
-pen-with-requires c κs = search needs
 
 returns : tie.Need-returns
 unfolding wentBy
@@ -54,13 +39,13 @@ pub next-spec : {M : Type 1} → statement M
 next-spec =
     tie.close
     (tie.spec
-    way-of-requires
-    enum-known-way
+    (λ c κs. search needs)
+    (λ c. search needs)
     step-pen-requires
-    enum-known-way-2
+    (λ c. search needs)
     pass-row-requires
-    enum-known-way-3
-    pen-with-requires
+    (λ c. search needs)
+    (λ c κs. search needs)
     returns
     returns-2
     returns-3)

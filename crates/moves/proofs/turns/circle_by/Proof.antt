@@ -6,21 +6,6 @@ use Rattle.moves.specs.Turns.{circledBy}
 use Rattle.moves.proofs.turns.circle_by.Statement.{statement}
 use Rattle.moves.proofs.turns.circle_by.Tie as tie
 
-enum-told : tie.Need-enum-told
-enum-told c = search needs
-
-enum-told-2 : tie.Need-enum-told-2
-enum-told-2 c = search needs
-
-destination-forth-requires : tie.Need-destination-forth-requires
-destination-forth-requires c κs = search needs
-
-enum-told-3 : tie.Need-enum-told-3
-enum-told-3 c = search needs
-
-destination-back-requires : tie.Need-destination-back-requires
-destination-back-requires c κs = search needs
-
 returns : tie.Need-returns
 unfolding circledBy
 returns c = rw (toZ-ofZ w16 (c .before .before .args .z) (c .before .before .fits .z), c .enum-told .given .1)
@@ -49,11 +34,11 @@ pub circle-by-spec : {M : Type 1} → statement M
 circle-by-spec =
     tie.close
     (tie.spec
-    enum-told
-    enum-told-2
-    destination-forth-requires
-    enum-told-3
-    destination-back-requires
+    (λ c. search needs)
+    (λ c. search needs)
+    (λ c κs. search needs)
+    (λ c. search needs)
+    (λ c κs. search needs)
     returns
     returns-2
     returns-3)

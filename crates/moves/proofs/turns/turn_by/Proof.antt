@@ -4,21 +4,6 @@ use Rattle.moves.specs.Turns.{turnedBy}
 use Rattle.moves.proofs.turns.turn_by.Statement.{statement}
 use Rattle.moves.proofs.turns.turn_by.Tie as tie
 
-enum-told : tie.Need-enum-told
-enum-told c = search needs
-
-enum-told-2 : tie.Need-enum-told-2
-enum-told-2 c = search needs
-
-forth-by-requires : tie.Need-forth-by-requires
-forth-by-requires c κs = search needs
-
-enum-told-3 : tie.Need-enum-told-3
-enum-told-3 c = search needs
-
-back-by-requires : tie.Need-back-by-requires
-back-by-requires c κs = search needs
-
 returns : tie.Need-returns
 unfolding turnedBy
 returns c = rw (c .enum-told .given .1)
@@ -35,11 +20,11 @@ pub turn-by-spec : {M : Type 1} → statement M
 turn-by-spec =
     tie.close
     (tie.spec
-    enum-told
-    enum-told-2
-    forth-by-requires
-    enum-told-3
-    back-by-requires
+    (λ c. search needs)
+    (λ c. search needs)
+    (λ c κs. search needs)
+    (λ c. search needs)
+    (λ c κs. search needs)
     returns
     returns-2
     returns-3)

@@ -4,21 +4,6 @@ use Rattle.moves.specs.Turns.{turnedBy}
 use Rattle.moves.proofs.turns.turn_once.Statement.{statement}
 use Rattle.moves.proofs.turns.turn_once.Tie as tie
 
-enum-told : tie.Need-enum-told
-enum-told c = search needs
-
-enum-told-2 : tie.Need-enum-told-2
-enum-told-2 c = search needs
-
-step-forth-requires : tie.Need-step-forth-requires
-step-forth-requires c κs = search needs
-
-enum-told-3 : tie.Need-enum-told-3
-enum-told-3 c = search needs
-
-step-back-requires : tie.Need-step-back-requires
-step-back-requires c κs = search needs
-
 returns : tie.Need-returns
 unfolding turnedBy
 returns c = rw (c .enum-told .given .1)
@@ -35,11 +20,11 @@ pub turn-once-spec : {M : Type 1} → statement M
 turn-once-spec =
     tie.close
     (tie.spec
-    enum-told
-    enum-told-2
-    step-forth-requires
-    enum-told-3
-    step-back-requires
+    (λ c. search needs)
+    (λ c. search needs)
+    (λ c κs. search needs)
+    (λ c. search needs)
+    (λ c κs. search needs)
     returns
     returns-2
     returns-3)

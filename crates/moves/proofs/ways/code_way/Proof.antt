@@ -8,24 +8,6 @@ use Rattle.moves.specs.Inner.{wentBy}
 use Rattle.moves.proofs.ways.code_way.Statement.{statement}
 use Rattle.moves.proofs.ways.code_way.Tie as tie
 
-code-at-requires : tie.Need-code-at-requires
-code-at-requires c κs = search needs
-
-cast-if1 : tie.Need-cast-if1
-cast-if1 c = search needs
-
-code-step-requires : tie.Need-code-step-requires
-code-step-requires c κs = search needs
-
-add-t13 : tie.Need-add-t13
-add-t13 c = search needs
-
-way-along-requires : tie.Need-way-along-requires
-way-along-requires c κs = search needs
-
-pass-code-requires : tie.Need-pass-code-requires
-pass-code-requires c κs = search needs
-
 returns : tie.Need-returns
 unfolding wentBy penGone codesMoved
 returns c = let test = c .before .before .before in
@@ -45,11 +27,11 @@ pub code-way-spec : {M : Type 1} → statement M
 code-way-spec =
     tie.close
     (tie.spec
-    code-at-requires
-    cast-if1
-    code-step-requires
-    add-t13
-    way-along-requires
-    pass-code-requires
+    (λ c κs. search needs)
+    (λ c. search needs)
+    (λ c κs. search needs)
+    (λ c. search needs)
+    (λ c κs. search needs)
+    (λ c κs. search needs)
     returns
     returns-2)

@@ -16,27 +16,6 @@ unfolding moved penWith
 known c e = let a = c .args in
     ap (λ (d : Drawing). movedBy (a .travel) (withInside (a .inside) d) (penWith (withInside (a .inside) d) (a .pen))) (sym e)
 
-enum-told : tie.Need-enum-told
-enum-told c = search needs
-
-enum-known-drawing : tie.Need-enum-known-drawing
-enum-known-drawing c = search needs
-
-line-way-requires : tie.Need-line-way-requires
-line-way-requires c κs = search needs
-
-enum-known-drawing-2 : tie.Need-enum-known-drawing-2
-enum-known-drawing-2 c = search needs
-
-code-way-requires : tie.Need-code-way-requires
-code-way-requires c κs = search needs
-
-enum-known-drawing-3 : tie.Need-enum-known-drawing-3
-enum-known-drawing-3 c = search needs
-
-block-way-requires : tie.Need-block-way-requires
-block-way-requires c κs = search needs
-
 returns : tie.Need-returns
 unfolding wentBy movedBy withInside
 returns c =
@@ -59,13 +38,13 @@ pub way-of-spec : {M : Type 1} → statement M
 way-of-spec =
     tie.close
     (tie.spec
-    enum-told
-    enum-known-drawing
-    line-way-requires
-    enum-known-drawing-2
-    code-way-requires
-    enum-known-drawing-3
-    block-way-requires
+    (λ c. search needs)
+    (λ c. search needs)
+    (λ c κs. search needs)
+    (λ c. search needs)
+    (λ c κs. search needs)
+    (λ c. search needs)
+    (λ c κs. search needs)
     returns
     returns-2
     returns-3

@@ -6,9 +6,6 @@ use borrow.Author.Needs.{needs}
 use Rattle.places.proofs.decoded.edge_of.Statement.{statement}
 use Rattle.places.proofs.decoded.edge_of.Tie as tie
 
-mode-of-requires : tie.Need-mode-of-requires
-mode-of-requires c κs = search needs
-
 returns : tie.Need-returns
 unfolding edgeOf
 returns c = rw (eq-eqb _ 3 (sym (c .before .mode-of .ensures) ∙ c .if1 .taken))
@@ -18,4 +15,4 @@ unfolding edgeOf
 returns-2 c = rw (ne-eqb _ 3 (λ e. c .if1 .left (c .before .mode-of .ensures ∙ e)))
 
 pub edge-of-spec : {M : Type 1} → statement M
-edge-of-spec = tie.close (tie.spec mode-of-requires returns returns-2)
+edge-of-spec = tie.close (tie.spec (λ c κs. search needs) returns returns-2)

@@ -6,21 +6,6 @@ use borrow.Author.Needs.{needs}
 use Rattle.places.proofs.decoded.flow_of.Statement.{statement}
 use Rattle.places.proofs.decoded.flow_of.Tie as tie
 
-pattern-field-requires : tie.Need-pattern-field-requires
-pattern-field-requires c κs = search needs
-
-foreground-source-requires : tie.Need-foreground-source-requires
-foreground-source-requires c κs = search needs
-
-background-source-requires : tie.Need-background-source-requires
-background-source-requires c κs = search needs
-
-is-fill-requires : tie.Need-is-fill-requires
-is-fill-requires c κs = search needs
-
-mode-of-requires : tie.Need-mode-of-requires
-mode-of-requires c κs = search needs
-
 cast-t10 : tie.Need-cast-t10
 cast-t10 c = omega (arith, c .mode-of .ensures, mode-lt (c .before .before .before .before .before .args .operations))
 
@@ -38,10 +23,10 @@ pub flow-of-spec : {M : Type 1} → statement M
 flow-of-spec =
     tie.close
     (tie.spec
-    pattern-field-requires
-    foreground-source-requires
-    background-source-requires
-    is-fill-requires
-    mode-of-requires
+    (λ c κs. search needs)
+    (λ c κs. search needs)
+    (λ c κs. search needs)
+    (λ c κs. search needs)
+    (λ c κs. search needs)
     cast-t10
     returns)

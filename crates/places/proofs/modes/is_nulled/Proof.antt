@@ -10,24 +10,6 @@ use borrow.Author.Needs.{needs}
 use Rattle.places.proofs.modes.is_nulled.Statement.{statement}
 use Rattle.places.proofs.modes.is_nulled.Tie as tie
 
-enum-told : tie.Need-enum-told
-enum-told c = search needs
-
-enum-known-drawing : tie.Need-enum-known-drawing
-enum-known-drawing c = search needs
-
-line-nulled-requires : tie.Need-line-nulled-requires
-line-nulled-requires c κs = search needs
-
-enum-known-drawing-2 : tie.Need-enum-known-drawing-2
-enum-known-drawing-2 c = search needs
-
-code-nulled-requires : tie.Need-code-nulled-requires
-code-nulled-requires c κs = search needs
-
-enum-told-2 : tie.Need-enum-told-2
-enum-told-2 c = search needs
-
 returns : tie.Need-returns
 unfolding isFirst isLast onBoundary nulledBy
 returns c = let mode = c .before .before .args .setup .brush .flow .mode in
@@ -38,7 +20,6 @@ returns-2 c = let start = c .before .before .before .before in
     rw (c .before .before .drawing .given .1, c .line-nulled .ensures, toZ-ofZ w32 (start .args .e) (start .fits .e))
 
 returns-3 : tie.Need-returns-3
-unfolding codeIn
 returns-3 c = let known = c .before .before .drawing2 .given .1 in
     rw known (c .code-nulled .ensures _ _ _ (rw known at (c .before .before .before .before .pre)))
 
@@ -51,12 +32,12 @@ pub is-nulled-spec : {M : Type 1} → statement M
 is-nulled-spec =
     tie.close
     (tie.spec
-    enum-told
-    enum-known-drawing
-    line-nulled-requires
-    enum-known-drawing-2
-    code-nulled-requires
-    enum-told-2
+    (λ c. search needs)
+    (λ c. search needs)
+    (λ c κs. search needs)
+    (λ c. search needs)
+    (λ c κs. search needs)
+    (λ c. search needs)
     returns
     returns-2
     returns-3

@@ -1,61 +1,71 @@
--- `foresee` is the definition: what is held back stays so, and otherwise its tests are those of the definition in their order.
+-- `foresee` is the definition: its tests are those of the definition in their order, and at each return those before have failed.
 use mathlib.Core.Path.{_≡_, _∙_, sym, ap}
-use mathlib.Core.Bool.{not}
+use mathlib.Core.Bool.{false, not}
+use lib.IntN.{ℤ}
+use mir.Syntax.{w32}
+use mir.ValLaws.{toZ-ofZ}
 use Rattle.numbers.specs.Choose.{choose}
-use Rattle.places.specs.Places.{onMap, inMask}
+use Rattle.places.specs.Places.{onMap, inMask, isMove, nulledBy, isNulled}
+use Rattle.places.proofs.ModeLaws.{moves-by}
 use Rattle.position.specs.declared.Fate.the-variants.{OutsideMap, OutsideMask, Painted}
 use Rattle.position.specs.Inner.{foreseenOf}
-use Rattle.position.proofs.Writing.{unpainted, held-open, held-closed}
 use borrow.Author.Needs.{needs}
 use Rattle.position.proofs.judge.foresee.Statement.{statement}
 use Rattle.position.proofs.judge.foresee.Tie as tie
 
+moves : (c : tie.After-is-move) → let a = c .before .before .args in isMove (a .setup .travel) (a .pen .drawing) ≡ c .is-move .result
+moves c = sym (c .is-move .ensures ∙ moves-by _ _ (c .before .code-in .ensures))
+
+nulled : (c : tie.After-is-nulled) → let a = c .before .before .before .before .before .args in isNulled (a .setup) (a .pen) ≡ c .is-nulled .result
+unfolding isNulled
+nulled c =
+    let a = c .before .before .before .before .before .args in
+    sym (c .is-nulled .ensures
+    ∙ ap (λ (z : ℤ). nulledBy (a .setup) z (a .pen .drawing)) (toZ-ofZ w32 (a .pen .e) (search (needs, c .before .struct-told .given .1))))
+
 -- where nothing holds it back, the map and the mask boundary tell
-clear : (c : tie.After-enum-told) → let a = c .before .before .before .args in
+clear : (c : tie.Else2) → let a = c .before .before .before .before .before .before .args in
     foreseenOf (a .setup) (a .pen)
     ≡ choose (not (onMap (a .setup .brush) (a .pen))) OutsideMap (choose (not (inMask (a .setup .brush) (a .pen))) OutsideMask Painted)
-clear c = held-open _ _ (sym (c .before .before .hold .ensures) ∙ c .enum-told .given .1)
+unfolding foreseenOf
+clear c = rw (moves (c .before .before .before .before) ∙ c .before .before .before .if1 .left, nulled (c .before) ∙ c .if2 .left)
 
 -- and inside the map the mask boundary alone
-inside : (c : tie.After-in-mask) → let a = c .before .before .before .before .before .before .args in
+inside : (c : tie.After-in-mask) → let a = c .before .before .before .before .before .before .before .before .before .args in
     foreseenOf (a .setup) (a .pen) ≡ choose (not (c .in-mask .result)) OutsideMask Painted
-inside c =
-    let on = c .before .before in
-    rw (clear (on .before), ap not (sym (on .on-map .ensures)) ∙ c .before .if1 .left, c .in-mask .ensures)
-
-hold-requires : tie.Need-hold-requires
-hold-requires c κs = search needs
-
-enum-told : tie.Need-enum-told
-enum-told c = search needs
-
-on-map-requires : tie.Need-on-map-requires
-on-map-requires c κs = search needs
+inside c = rw (clear (c .before .before .before), ap not (sym (c .before .before .on-map .ensures)) ∙ c .before .if3 .left, c .in-mask .ensures)
 
 returns : tie.Need-returns
-returns c = rw (clear (c .before .before), ap not (sym (c .before .on-map .ensures)) ∙ c .if1 .taken)
+unfolding foreseenOf
+returns c = rw (moves (c .before) ∙ c .if1 .taken)
 
-in-mask-requires : tie.Need-in-mask-requires
-in-mask-requires c κs = search needs
+is-nulled-requires : tie.Need-is-nulled-requires
+is-nulled-requires c κs = c .before .before .before .code-in .ensures
 
 returns-2 : tie.Need-returns-2
-returns-2 c = rw (inside (c .before), c .if2 .taken)
+unfolding foreseenOf
+returns-2 c = rw (moves (c .before .before .before .before) ∙ c .before .before .before .if1 .left, nulled (c .before) ∙ c .if2 .taken)
 
 returns-3 : tie.Need-returns-3
-returns-3 c = rw (inside (c .before), c .if2 .left) (c .before .before .before .before .enum-told .given .1)
+returns-3 c = rw (clear (c .before .before), ap not (sym (c .before .on-map .ensures)) ∙ c .if3 .taken)
 
 returns-4 : tie.Need-returns-4
-returns-4 c = let held = c .before .hold .ensures in held ∙ sym (held-closed _ _ (λ e. unpainted _ (c .match .keys2) (held ∙ e)))
+returns-4 c = rw (inside (c .before), c .if4 .taken)
+
+returns-5 : tie.Need-returns-5
+returns-5 c = rw (inside (c .before), c .if4 .left)
 
 pub foresee-spec : {M : Type 1} → statement M
 foresee-spec =
     tie.close
     (tie.spec
-    hold-requires
-    enum-told
-    on-map-requires
+    (λ c κs. search needs)
+    (λ c κs. search needs)
     returns
-    in-mask-requires
+    is-nulled-requires
     returns-2
+    (λ c κs. search needs)
     returns-3
-    returns-4)
+    (λ c κs. search needs)
+    returns-4
+    returns-5)
