@@ -2,6 +2,7 @@
 ghost use mathlib.Core.Path.{_≡_};
 ghost use Rattle.board.specs.Calls.{callAnswer, freshNumber, freshImage, writeNumber, writeImage, readNumber, runNumber, runImage, runBytes, loadNumber};
 use coprocessor::Coprocessor;
+use image::layout::BYTES;
 use parts::refusals::Refusal;
 use parts::refusals::accepts;
 use parts::refusals::number;
@@ -23,11 +24,13 @@ pub extern "C" fn xga_fresh(image: &mut [u8], size: u32) -> u32
     ensures { λ r. ⌜ (r ≡ freshNumber (now (image .entry)) size) × (now (image .exit) ≡ freshImage (now (image .entry)) size) ⌝ }
 {
     let made = Coprocessor::fresh(size);
-    let fresh = made.coprocessor;
-    let kept = fresh.save(image);
     let refusal = made.refusal;
+    if image.len() == BYTES {
+        made.coprocessor.save_known(image);
+        return number(refusal);
+    }
     if accepts(refusal) {
-        number(kept)
+        NO_IMAGE
     } else {
         number(refusal)
     }
@@ -44,11 +47,12 @@ pub extern "C" fn xga_write(image: &mut [u8], offset: u32, length: u32, value: u
     if !accepts(found) {
         return NO_IMAGE;
     }
-    let state = opened.coprocessor;
-    let written = state.write_known(offset, length, value);
-    let next = written.coprocessor;
-    next.save_known(image);
+    let written = opened.coprocessor.write_known(offset, length, value);
     let refusal = written.refusal;
+    if !accepts(refusal) {
+        return number(refusal);
+    }
+    written.coprocessor.save_known(image);
     number(refusal)
 }
 

@@ -1,10 +1,8 @@
 ghost use mathlib.Core.Path.{_≡_};
-ghost use Prim.Native.Nat.{_≤_};
-ghost use Rattle.coprocessor.specs.Writes.{startsBy, started, startedRefusal, settledBy};
+ghost use Rattle.coprocessor.specs.Writes.{startsBy, started};
 use crate::Coprocessor;
 use numbers::bytes::Write;
 use parts::moved::with_moved;
-use parts::refusals::Refusal;
 use parts::takes::touches;
 use rules::operations::is_block;
 use rules::operations::is_codes;
@@ -20,7 +18,7 @@ const STEPS_START: u8 = 0x2F;
 
 impl Coprocessor {
     // Whether the write, already stored, starts a drawing.
-    fn starts(self, w: Write) -> bool
+    pub(crate) fn starts(self, w: Write) -> bool
         ensures { λ r. ⌜ r ≡ startsBy w self ⌝ }
     {
         let operations = self.registers.figure.operations;
@@ -30,19 +28,8 @@ impl Coprocessor {
         by_operations | by_steps
     }
 
-    // Refusals 5 to 8 of the registers after the write, where it starts a drawing.
-    pub(crate) fn started_refusal(self, w: Write) -> Refusal
-        ensures { λ r. ⌜ r ≡ startedRefusal w self ⌝ }
-    {
-        if self.starts(w) {
-            self.start_refusal()
-        } else {
-            Refusal::Accepted
-        }
-    }
-
     // The record with a drawing in hand: used pointers turned into their maps, the counters at zero.
-    fn start(self, length: u8) -> Coprocessor
+    pub(crate) fn start(self, length: u8) -> Coprocessor
         ensures { λ r. ⌜ r ≡ started length self ⌝ }
     {
         let maps = self.maps;
@@ -55,18 +42,6 @@ impl Coprocessor {
             maps,
             registers: with_moved(registers.terms.e, turned, registers),
             drawing: start_drawing(figure, length),
-        }
-    }
-
-    // The record that an accepted write leaves, from the one with its registers stored.
-    pub(crate) fn settled(self, w: Write) -> Coprocessor
-        requires { ⌜ w .length ≤ 4 ⌝ }
-        ensures { λ r. ⌜ r ≡ settledBy w self ⌝ }
-    {
-        if self.starts(w) {
-            self.start(w.length as u8)
-        } else {
-            self
         }
     }
 }

@@ -5,7 +5,7 @@ ghost use lib.ListN.{set};
 ghost use Rattle.parts.specs.Latches.{mapLatched};
 ghost use Rattle.rules.specs.Maps.{mapAt};
 ghost use Rattle.coprocessor.specs.Valid.{validOf};
-ghost use Rattle.coprocessor.specs.Writes.{stored, writeRefusal, writeAnswer};
+ghost use Rattle.coprocessor.specs.Writes.{stored, startsBy, writeRefusal, writeAnswer};
 ghost use Rattle.coprocessor.specs.Inner.{lowerRefusal};
 use crate::Coprocessor;
 use crate::Written;
@@ -49,9 +49,10 @@ impl Coprocessor {
         }
     }
 
-    // The refusal of a write among 1 to 8, if any, where `next` is the record with the write stored.
-    fn lower_refusal(self, w: Write, next: Coprocessor) -> Refusal
-        requires { ⌜ next ≡ stored w self ⌝ }
+    // The refusal of a write among 1 to 8, if any, where `next` is the record with the write stored and `starts` whether that
+    // starts a drawing.
+    fn lower_refusal(self, w: Write, next: Coprocessor, starts: bool) -> Refusal
+        requires { ⌜ (next ≡ stored w self) × (starts ≡ startsBy w next) ⌝ }
         ensures { λ r. ⌜ r ≡ lowerRefusal w self ⌝ }
     {
         let offset = w.offset;
@@ -69,15 +70,18 @@ impl Coprocessor {
         if touches(1, OPERATIONS_START, w) & !draws(next.registers.figure.operations) {
             return Refusal::Function;
         }
-        next.started_refusal(w)
+        if starts {
+            return next.start_refusal();
+        }
+        Refusal::Accepted
     }
 
     // The refusal of a write, if any: the lowest of 1 to 8, or 10.
-    fn write_refusal(self, w: Write, next: Coprocessor) -> Refusal
-        requires { ⌜ next ≡ stored w self ⌝ }
+    fn write_refusal(self, w: Write, next: Coprocessor, starts: bool) -> Refusal
+        requires { ⌜ (next ≡ stored w self) × (starts ≡ startsBy w next) ⌝ }
         ensures { λ r. ⌜ r ≡ writeRefusal w self ⌝ }
     {
-        let lower = self.lower_refusal(w, next);
+        let lower = self.lower_refusal(w, next, starts);
         if !accepts(lower) {
             return lower;
         }
@@ -88,19 +92,25 @@ impl Coprocessor {
     }
 
     // What a write of this refusal answers.
-    fn answered(self, w: Write, next: Coprocessor, refusal: Refusal) -> Written
-        requires { ⌜ (next ≡ stored w self) × (refusal ≡ writeRefusal w self) ⌝ }
+    fn answered(self, w: Write, next: Coprocessor, starts: bool, refusal: Refusal) -> Written
+        requires { ⌜ (next ≡ stored w self) × (starts ≡ startsBy w next) × (refusal ≡ writeRefusal w self) ⌝ }
         ensures { λ r. ⌜ r ≡ writeAnswer w self ⌝ }
     {
-        if accepts(refusal) {
+        if !accepts(refusal) {
+            return Written {
+                refusal,
+                coprocessor: self,
+            };
+        }
+        if starts {
             Written {
                 refusal,
-                coprocessor: next.settled(w),
+                coprocessor: next.start(w.length as u8),
             }
         } else {
             Written {
                 refusal,
-                coprocessor: self,
+                coprocessor: next,
             }
         }
     }
@@ -116,8 +126,9 @@ impl Coprocessor {
             value,
         };
         let next = self.latched(w);
-        let refusal = self.lower_refusal(w, next);
-        self.answered(w, next, refusal)
+        let starts = next.starts(w);
+        let refusal = self.lower_refusal(w, next, starts);
+        self.answered(w, next, starts, refusal)
     }
 
     // Writes the `length` low bytes of `value` from `offset` on, and starts a drawing where that is asked; a refused write
@@ -131,7 +142,8 @@ impl Coprocessor {
             value,
         };
         let next = self.latched(w);
-        let refusal = self.write_refusal(w, next);
-        self.answered(w, next, refusal)
+        let starts = next.starts(w);
+        let refusal = self.write_refusal(w, next, starts);
+        self.answered(w, next, starts, refusal)
     }
 }

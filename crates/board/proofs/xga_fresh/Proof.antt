@@ -1,60 +1,70 @@
--- `xga_fresh` makes the fresh state's image: its own refusal comes first, and then the save's.
-use mathlib.Core.Path.{_≡_, sym, _∙_}
-use Rattle.parts.specs.Refusals.{isAccepted}
-use Rattle.coprocessor.specs.Fresh.{freshAnswer}
+-- `xga_fresh` lays the fresh state, which is valid, into a buffer of an image's length; its own refusal comes before that of another length.
+use mathlib.Core.Path.{_≡_, refl, sym, ap, _∙_}
+use mathlib.Core.Bool.{true}
+use mathlib.Core.List.{List}
+use Prim.Native.Nat.{ℕ}
+use lib.Dec.{eqb}
+use lib.ListN.{length}
+use borrow.Author.Tests.{eq-eqb, ne-eqb}
+use Rattle.numbers.specs.Choose.{choose}
+use Rattle.numbers.proofs.Choices.{by-test}
+use Rattle.parts.specs.Refusals.{isAccepted, refusalNumber}
+use Rattle.image.specs.Layout.{imageLength}
+use Rattle.coprocessor.specs.declared.Written.{Written}
+use Rattle.coprocessor.specs.Fresh.{sizeHolds, freshOf, freshAnswer}
+use Rattle.coprocessor.specs.Images.{imageOf, saves, saveRefusal, saved}
+use Rattle.laws.proofs.Refused.{fresh-valid, fresh-answer-valid}
+use Rattle.laws.proofs.LoadedLaws.{saved-valid}
 use Rattle.board.specs.Calls.{freshNumber, freshImage}
 use borrow.Author.Needs.{needs}
 use Rattle.board.proofs.xga_fresh.Statement.{statement}
 use Rattle.board.proofs.xga_fresh.Tie as tie
 
-made : (c : tie.After-accepts) → c .accepts .result ≡ isAccepted (freshAnswer (c .before .before .before .before .before .before .before .before .args .size) .refusal)
-made c = rw (c .accepts .ensures, c .before .before .before .before .before .before .fresh .ensures)
+-- over a buffer of an image's length, the number is that of the fresh state
+long-number : (image : List ℕ) (size : ℕ) → length image ≡ imageLength → refusalNumber (freshAnswer size .refusal) ≡ freshNumber image size
+unfolding freshNumber freshAnswer saves saveRefusal
+long-number image size long =
+    by-test
+    (λ (r : Written). refusalNumber (r .refusal) ≡ choose (isAccepted (r .refusal)) (refusalNumber (saveRefusal (r .coprocessor) image)) (refusalNumber (r .refusal)))
+    (sizeHolds size)
+    (λ holds. rw (eq-eqb _ _ long, fresh-valid size holds))
+    (λ other. refl)
 
-fresh-requires : tie.Need-fresh-requires
-fresh-requires c κs = search needs
-
-save-requires : tie.Need-save-requires
-save-requires c κs = search needs
-
-accepts-requires : tie.Need-accepts-requires
-accepts-requires c κs = search needs
-
-number-requires : tie.Need-number-requires
-number-requires c κs = search needs
-
-number-requires-2 : tie.Need-number-requires-2
-number-requires-2 c κs = search needs
-
-same-length : tie.Need-same-length
-same-length c = search needs
+told : (c : tie.After-accepts) → c .accepts .result ≡ isAccepted (freshAnswer (c .before .before .before .before .args .size) .refusal)
+told c = c .accepts .ensures ∙ ap (λ (r : Written). isAccepted (r .refusal)) (c .before .before .fresh .ensures)
 
 returns : tie.Need-returns
-unfolding freshNumber freshImage
+unfolding freshImage
 returns c =
-    let fresh = c .before .before .before .before .before .before .before .before .fresh .ensures in
-    let save = c .before .before .before .before .before .save .ensures in
-    (simp (sym (made (c .before .before)) ∙ c .before .if1 .taken) (rw (c .number .ensures, save .0, fresh)), rw (save .1, fresh))
-
-same-length-2 : tie.Need-same-length-2
-same-length-2 c = search needs
+    let l = c .before .before .before .before .before in
+    let long = l .if1 .taken in
+    let made = l .before .fresh .ensures in (
+      c .number .ensures ∙ ap (λ (r : Written). refusalNumber (r .refusal)) made ∙ long-number _ _ long,
+      c .before .before .before .save-known .ensures ∙ ap (λ (r : Written). imageOf (r .coprocessor)) made
+          ∙ sym (saved-valid _ _ long (fresh-answer-valid _)),
+    )
 
 returns-2 : tie.Need-returns-2
-unfolding freshNumber freshImage
-returns-2 c =
-    let fresh = c .before .before .before .before .before .before .before .before .fresh .ensures in
-    let save = c .before .before .before .before .before .save .ensures in
-    (simp (sym (made (c .before .before)) ∙ c .before .if1 .left) (rw (c .number2 .ensures, fresh)), rw (save .1, fresh))
+unfolding freshNumber freshImage saves saveRefusal saved
+returns-2 c = let other = ne-eqb _ _ (c .before .before .if1 .left) in (simp (sym (told (c .before)) ∙ c .if2 .taken, other), simp other)
+
+returns-3 : tie.Need-returns-3
+unfolding freshNumber freshImage saves saved
+returns-3 c =
+    let e = c .before in
+    let made = ap (λ (r : Written). refusalNumber (r .refusal)) (e .before .before .before .fresh .ensures) in
+    (simp (sym (told (e .before)) ∙ e .if2 .left) (c .number2 .ensures ∙ made), simp (ne-eqb _ _ (e .before .before .if1 .left)))
 
 pub xga-fresh-spec : {M : Type 1} → statement M
 xga-fresh-spec =
     tie.close
     (tie.spec
-    fresh-requires
-    save-requires
-    accepts-requires
-    number-requires
-    number-requires-2
-    same-length
+    (λ c κs. search needs)
+    (λ c κs. search needs)
+    (λ c κs. search needs)
+    (λ c. search needs)
     returns
-    same-length-2
-    returns-2)
+    (λ c κs. search needs)
+    (λ c κs. search needs)
+    returns-2
+    returns-3)

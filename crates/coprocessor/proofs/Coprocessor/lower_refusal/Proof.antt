@@ -1,13 +1,15 @@
 -- `lower_refusal` gives the lowest of 1 to 8: the tests come in the order of the numbers, from 4 on with the record that has the write stored.
-use mathlib.Core.Path.{_≡_, sym, _∙_}
+use mathlib.Core.Path.{_≡_, sym, ap, _∙_}
 use mathlib.Core.Bool.{true, false, not, _&&_}
 use borrow.Author.Tests.{not-true, not-false}
 use Rattle.numbers.specs.Bytes.{covers}
+use Rattle.numbers.proofs.Choices.{choose-true, choose-false}
 use Rattle.parts.specs.Drawings.{unfinished}
 use Rattle.parts.specs.Registers.{placed, listed}
 use Rattle.parts.proofs.TakeLaws.{touched-one}
 use Rattle.rules.specs.Operations.{draws}
-use Rattle.coprocessor.specs.Writes.{stored}
+use Rattle.coprocessor.specs.Valid.{startRefusalOf}
+use Rattle.coprocessor.specs.Writes.{stored, startsBy, startedRefusal}
 use Rattle.coprocessor.specs.Inner.{lowerRefusal}
 use Rattle.coprocessor.proofs.PlaceLaws.{placed-known}
 use borrow.Author.Needs.{needs}
@@ -28,7 +30,7 @@ no-function : (c : tie.After-draws) → let a = c .before .before .before .befor
     (c .before .touches .result && not (c .draws .result)) ≡ (covers (a .w) 0x7F && not (draws (stored (a .w) (a .self) .registers .figure .operations)))
 no-function c =
     let start = c .before .before .before .before .before .before .before .before in
-    rw (c .before .touches .ensures, touched-one 0x7F _, c .draws .ensures, start .pre)
+    rw (c .before .touches .ensures, touched-one 0x7F _, c .draws .ensures, start .pre .0)
 
 is-placed-requires : tie.Need-is-placed-requires
 is-placed-requires c κs = search needs
@@ -61,12 +63,30 @@ returns-4 : tie.Need-returns-4
 unfolding lowerRefusal
 returns-4 c = simp (place (c .before .before .before .before .before .before), idle (c .before .before .before .before), known (c .before .before), sym (no-function (c .before)) ∙ c .if4 .taken)
 
-started-refusal-requires : tie.Need-started-refusal-requires
-started-refusal-requires c κs = search needs
+-- whether the write starts a drawing, where none of 1 to 4 came
+begins : (c : tie.Else4) → let a = c .before .before .before .before .before .before .before .before .before .args in
+    a .starts ≡ startsBy (a .w) (stored (a .w) (a .self))
+begins c = let start = c .before .before .before .before .before .before .before .before .before in start .pre .1 ∙ ap (startsBy (start .args .w)) (start .pre .0)
+
+-- and the refusal is that of the start rules
+then-rules : (c : tie.Else4) → let a = c .before .before .before .before .before .before .before .before .before .args in
+    lowerRefusal (a .w) (a .self) ≡ startedRefusal (a .w) (stored (a .w) (a .self))
+unfolding lowerRefusal
+then-rules c = simp (place (c .before .before .before .before .before .before), idle (c .before .before .before .before), known (c .before .before), sym (no-function (c .before)) ∙ c .if4 .left)
+
+start-refusal-requires : tie.Need-start-refusal-requires
+start-refusal-requires c κs = search needs
 
 returns-5 : tie.Need-returns-5
-unfolding lowerRefusal
-returns-5 c = simp (place (c .before .before .before .before .before .before .before), idle (c .before .before .before .before .before), known (c .before .before .before), sym (no-function (c .before .before)) ∙ c .before .if4 .left) (rw (c .before .before .before .before .before .before .before .before .before .before .pre) at (c .started-refusal .ensures))
+unfolding startedRefusal
+returns-5 c =
+    let e = c .before .before in
+    let next = e .before .before .before .before .before .before .before .before .before .pre .0 in
+    c .start-refusal .ensures ∙ ap startRefusalOf next ∙ sym (then-rules e ∙ choose-true _ _ (sym (begins e) ∙ c .before .if5 .taken))
+
+returns-6 : tie.Need-returns-6
+unfolding startedRefusal
+returns-6 c = sym (then-rules (c .before) ∙ choose-false _ _ (sym (begins (c .before)) ∙ c .if5 .left))
 
 pub lower-refusal-spec : {M : Type 1} → statement M
 lower-refusal-spec =
@@ -81,5 +101,6 @@ lower-refusal-spec =
     touches-requires
     draws-requires
     returns-4
-    started-refusal-requires
-    returns-5)
+    start-refusal-requires
+    returns-5
+    returns-6)
