@@ -55,13 +55,13 @@ unfoldable pub bytesTaken : List ℕ → Session → Session
 bytesTaken [] s = s
 bytesTaken (byte ∷ bytes) s = bytesTaken bytes (byteTaken byte s)
 
--- ---- what the program prints: no promise can say it, so this is to be read beside `end_line`, `take_byte` and `main`
+-- ---- what the program prints: no promise can say it, so this is to be read beside `end_line`, `hear_byte` and `main`
 
 -- the text of the line in the buffer, as `end_line` has it printed
 unfoldable pub endPrinted : Session → List ℕ
 endPrinted s = answerText (toldOf (commandIn (s .buffer) (s .count)) (s .board) (s .memory) .answer) (s .line)
 
--- `take_byte` ends the line at a newline
+-- `hear_byte` ends the line at a newline
 unfoldable pub bytePrinted : ℕ → Session → List ℕ
 bytePrinted byte s = choose (eqb byte 10) (endPrinted s) []
 

@@ -52,7 +52,7 @@ fn end_line(bench: Bench, buffer: &[u8; 256], memory: &mut [u8; 64]) -> Bench
 }
 
 // Takes one byte of the input.
-fn take_byte(bench: Bench, byte: u8, buffer: &mut [u8; 256], memory: &mut [u8; 64]) -> Bench
+fn hear_byte(bench: Bench, byte: u8, buffer: &mut [u8; 256], memory: &mut [u8; 64]) -> Bench
     ensures { λ r. ⌜ sessionOf r (now (memory .exit)) (now (buffer .exit)) ≡ byteTaken byte (sessionOf bench (now (memory .entry)) (now (buffer .entry))) ⌝ }
 {
     if byte == b'\n' {
@@ -75,7 +75,7 @@ fn take_piece(bench: Bench, piece: &[u8], buffer: &mut [u8; 256], memory: &mut [
     let mut state = bench;
     let mut i = 0;
     while i < piece.len() {
-        state = take_byte(state, piece[i], buffer, memory);
+        state = hear_byte(state, piece[i], buffer, memory);
         i += 1;
     }
     state

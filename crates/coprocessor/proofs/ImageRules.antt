@@ -89,15 +89,15 @@ module _ (b : List ℕ) (f : Figure) (accepted inside : Bool) where
       let Same : Drawing → Type 0 = λ d. (counted d && goes d) ≡ (leb (at 9 1 b) 3 && rest) in
       let bit = bit-state (at 9 1 b) in
       let done = eq-eqb (at 10 2 b) (at 10 2 b) refl in
-      let gone = eq-eqb (at 12 2 b) (at 12 2 b) refl in
+      let passed = eq-eqb (at 12 2 b) (at 12 2 b) refl in
       let count = eq-eqb (at 14 1 b) (at 14 1 b) refl in
       by-test Same (eqb (at 9 1 b) 0) (λ idle. rw (eqb-true (at 9 1 b) 0 idle, and-true)) (λ no-zero.
       by-test Same (eqb (at 9 1 b) 2) (λ stopped. rw (eqb-true (at 9 1 b) 2 stopped, and-true)) (λ no-two.
       let state = drawing-state (at 9 1 b) asked (zeroCounters b) no-zero no-two in
       by-test Same (isLine (f .operations)) (λ line. rw (state, line, bit, done) (same _ _ (λ h. search parts) (λ h. search parts)))
       (λ no-line. by-test Same (isCodes (f .operations))
-      (λ codes. rw (state, no-line, codes, codes-state (at 9 1 b), done, gone, count) (same _ _ (λ h. search parts) (λ h. search parts)))
-      (λ no-codes. rw (state, no-line, no-codes, bit, done, gone) (same _ _ (λ h. search parts) (λ h. search parts))))))
+      (λ codes. rw (state, no-line, codes, codes-state (at 9 1 b), done, passed, count) (same _ _ (λ h. search parts) (λ h. search parts)))
+      (λ no-codes. rw (state, no-line, no-codes, bit, done, passed) (same _ _ (λ h. search parts) (λ h. search parts))))))
 
   whole : (head size reduced : Bool)
       → (head && counted drawn && (size && reduced && goes drawn)) ≡ (head && size && leb (at 9 1 b) 3 && reduced && rest)

@@ -46,24 +46,24 @@ stateIn b = fieldAt layout.state b
 
 -- 01, State image: bytes 10-14 are zero
 unfoldable pub zeroCounters : List ℕ → Bool
-zeroCounters b = eqb (fieldAt layout.positions b) 0 && eqb (fieldAt layout.passed b) 0 && eqb (fieldAt layout.codes b) 0
+zeroCounters b = eqb (fieldAt layout.done b) 0 && eqb (fieldAt layout.passed b) 0 && eqb (fieldAt layout.count b) 0
 
 -- 01, State image: for a function that draws, a position remains at the counters, and counters not of that function are zero (12 too for a line);
 -- 02, 102: state 3 is a line's or a fill's, by the rules of its bit
 unfoldable pub remains : Figure → List ℕ → Bool
 remains f b =
     choose (isLine (f .operations))
-    (countersHold f (Line (eqb (stateIn b) 3) (fieldAt layout.positions b)) && eqb (fieldAt layout.passed b) 0 && eqb (fieldAt layout.codes b) 0)
+    (countersHold f (Line (eqb (stateIn b) 3) (fieldAt layout.done b)) && eqb (fieldAt layout.passed b) 0 && eqb (fieldAt layout.count b) 0)
     (choose (isCodes (f .operations))
-    (countersHold f (Codes (fieldAt layout.codes b) (fieldAt layout.passed b) (fieldAt layout.positions b)) && not (eqb (stateIn b) 3))
-    (countersHold f (Block (eqb (stateIn b) 3) (fieldAt layout.positions b) (fieldAt layout.passed b)) && eqb (fieldAt layout.codes b) 0))
+    (countersHold f (Codes (fieldAt layout.count b) (fieldAt layout.passed b) (fieldAt layout.done b)) && not (eqb (stateIn b) 3))
+    (countersHold f (Block (eqb (stateIn b) 3) (fieldAt layout.done b) (fieldAt layout.passed b)) && eqb (fieldAt layout.count b) 0))
 
 -- 01, State image: accepted exactly when mark and version hold, the size is within its limit, the state is 0, 1, 2 or 3 (02, 102), and every reduction holds; in states 1 and 3 the start rules hold, a position remains, and used pointers lie in their maps; in the others bytes 10-14 are zero
 unfoldable pub loads : List ℕ → Bool
 loads b =
     eqb (length b) imageLength
-    && eqb (fieldAt layout.mark b) 0x534758
-    && eqb (fieldAt layout.version b) 1
+    && eqb (fieldAt layout.mark b) layout.theMark
+    && eqb (fieldAt layout.version b) layout.theVersion
     && sizeHolds (loaded b .size)
     && leb (stateIn b) 3
     && reducedOf (loaded b)

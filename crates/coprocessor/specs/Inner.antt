@@ -42,8 +42,8 @@ placeRefusal offset length =
 unfoldable pub loadsBy : List ℕ → Bool
 loadsBy b =
     eqb (length b) imageLength
-    && eqb (fieldAt layout.mark b) 0x534758
-    && eqb (fieldAt layout.version b) 1
+    && eqb (fieldAt layout.mark b) layout.theMark
+    && eqb (fieldAt layout.version b) layout.theVersion
     && sameCounters (countersFrom b) (countersOf (loaded b .drawing))
     && validOf (loaded b)
 

@@ -35,7 +35,7 @@ fn latch_maps(maps: [Map; 4], index: u8, w: Write) -> [Map; 4]
 
 impl Coprocessor {
     // The record with the write's bytes stored and reduced.
-    fn latched(self, w: Write) -> Coprocessor
+    fn stored(self, w: Write) -> Coprocessor
         ensures { λ r. ⌜ r ≡ stored w self ⌝ }
     {
         let maps = self.maps;
@@ -125,7 +125,7 @@ impl Coprocessor {
             length,
             value,
         };
-        let next = self.latched(w);
+        let next = self.stored(w);
         let starts = next.starts(w);
         let refusal = self.lower_refusal(w, next, starts);
         self.answered(w, next, starts, refusal)
@@ -141,7 +141,7 @@ impl Coprocessor {
             length,
             value,
         };
-        let next = self.latched(w);
+        let next = self.stored(w);
         let starts = next.starts(w);
         let refusal = self.write_refusal(w, next, starts);
         self.answered(w, next, starts, refusal)

@@ -32,16 +32,16 @@ laid (f ∷ fs) = le (f .bytes) (f .value) ++ laid fs
 unfoldable pub counterFields : Counters → List Field
 counterFields k =
     (layout.state holds k .state)
-    ∷ (layout.positions holds k .done)
-    ∷ (layout.passed holds k .gone)
-    ∷ (layout.codes holds k .count)
+    ∷ (layout.done holds k .done)
+    ∷ (layout.passed holds k .passed)
+    ∷ (layout.count holds k .count)
     ∷ []
 
 -- 01, State image: 0 mark XGS, 3 version, 5 size, 9 to 14 the drawing, 15 index
 unfoldable pub headFields : Counters → (size index : ℕ) → List Field
 headFields k size index =
-    (layout.mark holds 0x534758)
-    ∷ (layout.version holds 1)
+    (layout.mark holds layout.theMark)
+    ∷ (layout.version holds layout.theVersion)
     ∷ (layout.memorySize holds size)
     ∷ counterFields k
     ++ (layout.mapIndex holds index)

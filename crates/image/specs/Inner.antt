@@ -14,7 +14,7 @@ use Rattle.image.specs.declared.counters.Counters.{Counters}
 
 -- the same counters
 unfoldable pub sameCounters : Counters → Counters → Bool
-sameCounters j k = eqb (j .state) (k .state) && eqb (j .done) (k .done) && eqb (j .gone) (k .gone) && eqb (j .count) (k .count)
+sameCounters j k = eqb (j .state) (k .state) && eqb (j .done) (k .done) && eqb (j .passed) (k .passed) && eqb (j .count) (k .count)
 
 -- the bytes of words, four each
 unfoldable pub wordBytes : List ℕ → List ℕ

@@ -26,6 +26,14 @@ fieldAt p b = at (p .from) (p .bytes) b
 
 -- ---- mark to map index
 
+-- 01, State image: the mark XGS
+abbrev pub theMark : ℕ
+theMark = 0x534758
+
+-- 01, State image: version 1
+abbrev pub theVersion : ℕ
+theVersion = 1
+
 -- 01, State image: 0 mark
 abbrev pub mark : Place
 mark = record { from = 0; bytes = 3 }
@@ -43,20 +51,20 @@ abbrev pub state : Place
 state = following memorySize 1
 
 -- 01, State image: 10 positions done in this row, line or code
-abbrev pub positions : Place
-positions = following state 2
+abbrev pub done : Place
+done = following state 2
 
 -- 01, State image: 12 rows or codes done
 abbrev pub passed : Place
-passed = following positions 2
+passed = following done 2
 
 -- 01, State image: 14 codes in the starting write
-abbrev pub codes : Place
-codes = following passed 1
+abbrev pub count : Place
+count = following passed 1
 
 -- 01, State image: 15 map index
 abbrev pub mapIndex : Place
-mapIndex = following codes 1
+mapIndex = following count 1
 
 -- ---- the maps
 
@@ -79,16 +87,16 @@ mapFormat k = following (mapHeight k) 1
 -- ---- the registers
 
 -- 01, State image: 52, after four maps
-abbrev pub registersFrom : ℕ
-registersFrom = mapBase 4 .from
+abbrev pub afterMaps : ℕ
+afterMaps = mapBase 4 .from
 
 -- 01, State image: 52 registers 20-2F hex; 68 48-4A; 71 4C-63; 95 6C-7F: where a register's first byte lies
 abbrev pub placeFrom : ℕ → ℕ
 placeFrom offset =
-    choose (ltb offset 0x48) (registersFrom + (offset - 0x20))
-    (choose (ltb offset 0x4C) (registersFrom + 16 + (offset - 0x48))
-    (choose (ltb offset 0x6C) (registersFrom + 19 + (offset - 0x4C))
-    (registersFrom + 43 + (offset - 0x6C))))
+    choose (ltb offset 0x48) (afterMaps + (offset - 0x20))
+    (choose (ltb offset 0x4C) (afterMaps + 16 + (offset - 0x48))
+    (choose (ltb offset 0x6C) (afterMaps + 19 + (offset - 0x4C))
+    (afterMaps + 43 + (offset - 0x6C))))
 
 -- 01, State image: a register's place
 abbrev pub register : Register → Place

@@ -24,9 +24,9 @@ unfoldable pub countersFrom : List ℕ → Counters
 countersFrom b =
     record {
       state = fieldAt layout.state b;
-      done = fieldAt layout.positions b;
-      gone = fieldAt layout.passed b;
-      count = fieldAt layout.codes b;
+      done = fieldAt layout.done b;
+      passed = fieldAt layout.passed b;
+      count = fieldAt layout.count b;
     }
 
 -- 01, State image: a map of nine bytes: base, width, height, format

@@ -10,7 +10,7 @@ use rules::operations::is_line;
 pub struct Counters {
     pub state: u8,
     pub done: u16,
-    pub gone: u16,
+    pub passed: u16,
     pub count: u8,
 }
 
@@ -22,19 +22,19 @@ pub fn counters_of(drawing: Drawing) -> Counters
         Drawing::Nothing { stopped } => Counters {
             state: if stopped { 2 } else { 0 },
             done: 0,
-            gone: 0,
+            passed: 0,
             count: 0,
         },
         Drawing::Line { done, rose } => Counters {
             state: if rose { 3 } else { 1 },
             done,
-            gone: 0,
+            passed: 0,
             count: 0,
         },
         Drawing::Codes { count, code, done } => Counters {
             state: 1,
             done,
-            gone: code,
+            passed: code,
             count,
         },
         Drawing::Block {
@@ -44,7 +44,7 @@ pub fn counters_of(drawing: Drawing) -> Counters
         } => Counters {
             state: if inside { 3 } else { 1 },
             done: column,
-            gone: row,
+            passed: row,
             count: 0,
         },
     }
@@ -69,13 +69,13 @@ pub fn drawing_of(operations: u32, k: Counters) -> Drawing
     if is_codes(operations) {
         return Drawing::Codes {
             count: k.count,
-            code: k.gone,
+            code: k.passed,
             done: k.done,
         };
     }
     Drawing::Block {
         column: k.done,
-        row: k.gone,
+        row: k.passed,
         inside: k.state == 3,
     }
 }
@@ -84,5 +84,5 @@ pub fn drawing_of(operations: u32, k: Counters) -> Drawing
 pub fn are_same(j: Counters, k: Counters) -> bool
     ensures { λ r. ⌜ r ≡ sameCounters j k ⌝ }
 {
-    (j.state == k.state) & (j.done == k.done) & (j.gone == k.gone) & (j.count == k.count)
+    (j.state == k.state) & (j.done == k.done) & (j.passed == k.passed) & (j.count == k.count)
 }

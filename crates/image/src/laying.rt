@@ -29,7 +29,7 @@ fn lay_counters(k: Counters, buffer: &mut [u8])
 {
     store(buffer, layout::STATE_AT, 1, k.state as u32);
     store(buffer, layout::DONE_AT, 2, k.done as u32);
-    store(buffer, layout::GONE_AT, 2, k.gone as u32);
+    store(buffer, layout::PASSED_AT, 2, k.passed as u32);
     store(buffer, layout::COUNT_AT, 1, k.count as u32);
 }
 
@@ -69,7 +69,7 @@ fn lay_maps(maps: [Map; 4], buffer: &mut [u8])
 // E, K1 and K2.
 fn lay_terms(terms: Terms, buffer: &mut [u8])
     requires { ⌜ length (now buffer) ≡ defined.imageLength ⌝ }
-    ensures { λ _. ⌜ now (buffer .exit) ≡ sets (now (buffer .entry)) 52 (termBytes terms) ⌝ }
+    ensures { λ _. ⌜ now (buffer .exit) ≡ sets (now (buffer .entry)) (defined.placeFrom 0x20) (termBytes terms) ⌝ }
 {
     store(buffer, layout::E_AT, 4, word(terms.e));
     store(buffer, layout::K1_AT, 4, word(terms.k1));
@@ -79,7 +79,7 @@ fn lay_terms(terms: Terms, buffer: &mut [u8])
 // The two mixes and the compare condition.
 fn lay_mixes(colours: Colours, buffer: &mut [u8])
     requires { ⌜ length (now buffer) ≡ defined.imageLength ⌝ }
-    ensures { λ _. ⌜ now (buffer .exit) ≡ sets (now (buffer .entry)) 68 (mixBytes colours) ⌝ }
+    ensures { λ _. ⌜ now (buffer .exit) ≡ sets (now (buffer .entry)) (defined.placeFrom 0x48) (mixBytes colours) ⌝ }
 {
     store(
         buffer,
@@ -104,7 +104,7 @@ fn lay_mixes(colours: Colours, buffer: &mut [u8])
 // The compare value, the masks and the colours.
 fn lay_colours(colours: Colours, buffer: &mut [u8])
     requires { ⌜ length (now buffer) ≡ defined.imageLength ⌝ }
-    ensures { λ _. ⌜ now (buffer .exit) ≡ sets (now (buffer .entry)) 71 (colourBytes colours) ⌝ }
+    ensures { λ _. ⌜ now (buffer .exit) ≡ sets (now (buffer .entry)) (defined.placeFrom 0x4C) (colourBytes colours) ⌝ }
 {
     store(buffer, layout::VALUE_AT, 4, colours.compare.value);
     store(buffer, layout::PLANES_AT, 4, colours.planes);
@@ -124,15 +124,15 @@ fn lay_point(point: Point, offset: usize, buffer: &mut [u8])
 // The destination pointer, as one word.
 fn lay_spot(spot: Spot, buffer: &mut [u8])
     requires { ⌜ length (now buffer) ≡ defined.imageLength ⌝ }
-    ensures { λ _. ⌜ now (buffer .exit) ≡ sets (now (buffer .entry)) 107 (spotBytes spot) ⌝ }
+    ensures { λ _. ⌜ now (buffer .exit) ≡ sets (now (buffer .entry)) (defined.placeFrom 0x78) (spotBytes spot) ⌝ }
 {
     store(buffer, layout::DESTINATION_AT, 4, spot_word(spot));
 }
 
 // Every register from 20 to 63 hex.
-fn lay_figure(registers: Registers, buffer: &mut [u8])
+fn lay_lower(registers: Registers, buffer: &mut [u8])
     requires { ⌜ length (now buffer) ≡ defined.imageLength ⌝ }
-    ensures { λ _. ⌜ now (buffer .exit) ≡ sets (now (buffer .entry)) 52 (lowBytes registers) ⌝ }
+    ensures { λ _. ⌜ now (buffer .exit) ≡ sets (now (buffer .entry)) (defined.placeFrom 0x20) (lowBytes registers) ⌝ }
 {
     let terms = registers.terms;
     let colours = registers.colours;
@@ -145,9 +145,9 @@ fn lay_figure(registers: Registers, buffer: &mut [u8])
 }
 
 // Every register from 6C to 7F hex.
-fn lay_pointers(registers: Registers, buffer: &mut [u8])
+fn lay_upper(registers: Registers, buffer: &mut [u8])
     requires { ⌜ length (now buffer) ≡ defined.imageLength ⌝ }
-    ensures { λ _. ⌜ now (buffer .exit) ≡ sets (now (buffer .entry)) 95 (highBytes registers) ⌝ }
+    ensures { λ _. ⌜ now (buffer .exit) ≡ sets (now (buffer .entry)) (defined.placeFrom 0x6C) (highBytes registers) ⌝ }
 {
     let origin = registers.figure.origin;
     let source = registers.pointers.source;
@@ -172,6 +172,6 @@ pub fn lay(size: u32, maps: [Map; 4], registers: Registers, drawing: Drawing, bu
 {
     lay_head(size, registers.index, counters_of(drawing), buffer);
     lay_maps(maps, buffer);
-    lay_figure(registers, buffer);
-    lay_pointers(registers, buffer);
+    lay_lower(registers, buffer);
+    lay_upper(registers, buffer);
 }

@@ -15,9 +15,9 @@ pub(crate) const STATE_AT: usize = SIZE_AT + 4;
 
 pub(crate) const DONE_AT: usize = STATE_AT + 1;
 
-pub(crate) const GONE_AT: usize = DONE_AT + 2;
+pub(crate) const PASSED_AT: usize = DONE_AT + 2;
 
-pub(crate) const COUNT_AT: usize = GONE_AT + 2;
+pub(crate) const COUNT_AT: usize = PASSED_AT + 2;
 
 pub(crate) const INDEX_AT: usize = COUNT_AT + 1;
 

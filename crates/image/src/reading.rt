@@ -5,14 +5,14 @@ ghost use mathlib.Core.Bool.{_&&_};
 ghost use Prim.Native.Nat.{_+_, _≤_};
 ghost use lib.Dec.{eqb};
 ghost use lib.ListN.{length};
-ghost use mir.Syntax.{w16, w32};
-ghost use mir.Val.{toZ};
 ghost use Rattle.image.specs.Layout as defined;
-ghost use Rattle.image.specs.Layout.{at};
+ghost use Rattle.image.specs.Layout.{at, fieldAt};
 ghost use Rattle.image.specs.Read as read;
 use crate::counters::Counters;
 use crate::layout;
 use numbers::bytes::fetch;
+use numbers::circles::signed_half;
+use numbers::circles::signed_word;
 use parts::shapes::Colours;
 use parts::shapes::Compare;
 use parts::shapes::Figure;
@@ -23,28 +23,6 @@ use parts::shapes::Registers;
 use parts::shapes::Spot;
 use parts::shapes::Terms;
 use pixels::Map;
-
-// The signed number of four bytes.
-fn signed_word(x: u32) -> i32
-    ensures { λ r. ⌜ r ≡ toZ w32 x ⌝ }
-{
-    if x < 2147483648 {
-        x as i32
-    } else {
-        -1 - ((4294967295 - x) as i32)
-    }
-}
-
-// The signed number of two bytes.
-fn signed_half(x: u16) -> i16
-    ensures { λ r. ⌜ r ≡ toZ w16 x ⌝ }
-{
-    if x < 32768 {
-        x as i16
-    } else {
-        -1 - ((65535 - x) as i16)
-    }
-}
 
 // The four bytes of the image from an offset on.
 fn word_at(buffer: &[u8], offset: usize) -> u32
@@ -78,7 +56,7 @@ pub fn counters_from(buffer: &[u8]) -> Counters
     Counters {
         state: byte_at(buffer, layout::STATE_AT),
         done: half_at(buffer, layout::DONE_AT),
-        gone: half_at(buffer, layout::GONE_AT),
+        passed: half_at(buffer, layout::PASSED_AT),
         count: byte_at(buffer, layout::COUNT_AT),
     }
 }
@@ -86,7 +64,7 @@ pub fn counters_from(buffer: &[u8]) -> Counters
 // The memory's size.
 pub fn size_from(buffer: &[u8]) -> u32
     requires { ⌜ length (now buffer) ≡ defined.imageLength ⌝ }
-    ensures { λ r. ⌜ r ≡ at (defined.memorySize .from) (defined.memorySize .bytes) (now (buffer .entry)) ⌝ }
+    ensures { λ r. ⌜ r ≡ fieldAt defined.memorySize (now (buffer .entry)) ⌝ }
 {
     word_at(buffer, layout::SIZE_AT)
 }
@@ -216,7 +194,7 @@ pub fn registers_from(buffer: &[u8]) -> Registers
 // Whether the image has the mark and the version.
 pub fn is_marked(buffer: &[u8]) -> bool
     requires { ⌜ length (now buffer) ≡ defined.imageLength ⌝ }
-    ensures { λ r. ⌜ r ≡ eqb (at 0 3 (now (buffer .entry))) 0x534758 && eqb (at 3 2 (now (buffer .entry))) 1 ⌝ }
+    ensures { λ r. ⌜ r ≡ eqb (fieldAt defined.mark (now (buffer .entry))) defined.theMark && eqb (fieldAt defined.version (now (buffer .entry))) defined.theVersion ⌝ }
 {
     (fetch(buffer, layout::MARK_AT, 3) == layout::MARK)
         & (fetch(buffer, layout::VERSION_AT, 2) == layout::VERSION)

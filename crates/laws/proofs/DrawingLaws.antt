@@ -52,7 +52,7 @@ block-no-codes operations e = of-block (λ (f : ℕ). (eqb f 2 || eqb f 4) ≡ f
 pub record CountersFit (k : Counters) : Type 0 where
   pub state : k .state < 256
   pub done : k .done < 65536
-  pub gone : k .gone < 65536
+  pub passed : k .passed < 65536
   pub count : k .count < 256
 
 -- the state of a drawing with a bit, 3 where it is set and 1 where not, tells the bit
@@ -108,14 +108,14 @@ pub counters-same : (k : Counters) → sameCounters k k ≡ true
 unfolding sameCounters
 counters-same k =
     let done = eq-eqb (k .done) (k .done) refl in
-    let gone = eq-eqb (k .gone) (k .gone) refl in
-    rw (eq-eqb (k .state) (k .state) refl, done, gone, eq-eqb (k .count) (k .count) refl)
+    let passed = eq-eqb (k .passed) (k .passed) refl in
+    rw (eq-eqb (k .state) (k .state) refl, done, passed, eq-eqb (k .count) (k .count) refl)
 
 pub same-counters : (j k : Counters) → sameCounters j k ≡ true → j ≡ k
 unfolding sameCounters
 same-counters j k e =
     let state = eqb-true (j .state) (k .state) (search (and-left, and-right)) in
     let done = eqb-true (j .done) (k .done) (search (and-left, and-right)) in
-    let gone = eqb-true (j .gone) (k .gone) (search (and-left, and-right)) in
+    let passed = eqb-true (j .passed) (k .passed) (search (and-left, and-right)) in
     let count = eqb-true (j .count) (k .count) (search and-right) in
-    λ i. record { state = state i; done = done i; gone = gone i; count = count i }
+    λ i. record { state = state i; done = done i; passed = passed i; count = count i }

@@ -99,9 +99,9 @@ module _ (c : Coprocessor) (held : Held c) (v : validOf c ≡ true) where
       let k = counters-fit (c .registers .figure) (valid.dimensions-reduced c v) (c .drawing) (valid.counters-going c v) in
       let state = number-whole 1 (countersOf (c .drawing) .state) (k .state) in
       let done = number-whole 2 (countersOf (c .drawing) .done) (k .done) in
-      let gone = number-whole 2 (countersOf (c .drawing) .gone) (k .gone) in
+      let passed = number-whole 2 (countersOf (c .drawing) .passed) (k .passed) in
       let count = number-whole 1 (countersOf (c .drawing) .count) (k .count) in
-      λ i. record { state = state i; done = done i; gone = gone i; count = count i }
+      λ i. record { state = state i; done = done i; passed = passed i; count = count i }
 
   maps-back : mapsFrom (imageOf c) ≡ c .maps
   unfolding mapsFrom mapFrom at imageOf laid fieldsOf headFields counterFields mapsFields mapFields le

@@ -6,6 +6,7 @@ ghost use Rattle.moves.specs.Steps.{lineStep, codeStep, movesRow, goesUp
 use crate::Course;
 use crate::Step;
 use crate::Turn;
+use rules::codes::direction_of;
 
 // The step of a line at this error.
 pub fn line_step(course: Course, e: i32) -> Step
@@ -41,7 +42,7 @@ fn turn_of(direction: u8) -> Turn
 pub fn code_step(code: u8) -> Step
     ensures { λ r. ⌜ r ≡ codeStep code ⌝ }
 {
-    let direction = code / 32;
+    let direction = direction_of(code);
     Step {
         x: turn_of((direction + 6) % 8),
         y: turn_of(direction),

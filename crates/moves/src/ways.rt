@@ -18,6 +18,8 @@ use crate::steps::line_step;
 use numbers::circles::term_sum;
 use parts::drawing::Drawing;
 use rules::codes::code_at;
+use rules::codes::steps_of;
+use rules::codes::stops;
 
 // The first turn in a read form, and otherwise the second.
 fn turn_in(read: bool, first: Turn, second: Turn) -> Turn
@@ -94,7 +96,7 @@ fn pass_code(steps: u32, count: u8, code: u16) -> Drawing
 {
     if code as u32 + 1 < count as u32 {
         let following = code + 1;
-        if code_at(steps, count, following) == 0 {
+        if stops(code_at(steps, count, following)) {
             Drawing::Nothing { stopped: true }
         } else {
             Drawing::Codes {
@@ -114,7 +116,7 @@ fn code_way(travel: Travel, count: u8, code: u16, done: u16, pen: Pen) -> Way
 {
     let course = travel.course;
     let current = code_at(travel.figure.steps, count, code);
-    if done < (current % 16) as u16 {
+    if done < steps_of(current) {
         way_along(
             course,
             code_step(current),

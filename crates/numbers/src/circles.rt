@@ -1,6 +1,8 @@
 ghost use mathlib.Core.Path.{_≡_};
 ghost use Prim.Native.Nat.{_+_, _^_, _%_, _≤_, _<_};
 ghost use lib.IntN.{pos, _+ℤ_, _-ℤ_};
+ghost use mir.Syntax.{w16, w32};
+ghost use mir.Val.{toZ};
 ghost use Rattle.numbers.specs.Circles.{forth, back, residue, circle};
 
 // A map's pointer runs from 0 to `last`, one less than the map's size.
@@ -62,6 +64,28 @@ pub fn half_word(z: i16) -> u16
         65535 - ((-1 - z) as u16)
     } else {
         z as u16
+    }
+}
+
+// The signed number of four bytes.
+pub fn signed_word(x: u32) -> i32
+    ensures { λ r. ⌜ r ≡ toZ w32 x ⌝ }
+{
+    if x < 2147483648 {
+        x as i32
+    } else {
+        -1 - ((4294967295 - x) as i32)
+    }
+}
+
+// The signed number of two bytes.
+pub fn signed_half(x: u16) -> i16
+    ensures { λ r. ⌜ r ≡ toZ w16 x ⌝ }
+{
+    if x < 32768 {
+        x as i16
+    } else {
+        -1 - ((65535 - x) as i16)
     }
 }
 

@@ -1,10 +1,10 @@
 -- How the code asks it: what functions inside promise and ask of each other, proved from the rules; nothing here has to be believed.
-use Prim.Native.Nat.{ℕ, _/_, _%_}
+use Prim.Native.Nat.{ℕ}
 use mathlib.Core.Bool.{Bool, true, false, _&&_}
 use lib.Dec.{eqb}
 use Rattle.parts.specs.declared.drawing.Drawing.{Drawing}
 use Rattle.parts.specs.declared.drawing.Drawing.the-variants.{Nothing, Line, Codes, Block}
-use Rattle.rules.specs.Codes.{codeAt}
+use Rattle.rules.specs.Codes.{onlyMoves, codeAt}
 
 -- the code that is drawn, 0 where none is
 abbrev pub codeIn : ℕ → Drawing → ℕ
@@ -22,4 +22,4 @@ areCodes (Block inside column row) = false
 
 -- whether a position only moves, by the code that is drawn
 abbrev pub movesBy : ℕ → Drawing → Bool
-movesBy code d = areCodes d && eqb (code / 16 % 2) 0
+movesBy code d = areCodes d && onlyMoves code

@@ -1,5 +1,5 @@
 -- Where a position lies: on its map, in the mask's boundary, first or last of its line or code, on an area's boundary.
-use Prim.Native.Nat.{ℕ, _/_, _%_}
+use Prim.Native.Nat.{ℕ}
 use mathlib.Core.Bool.{Bool, true, false, not, _&&_, _||_}
 use lib.Dec.{leb, eqb}
 use lib.IntN.{ℤ, pos, negsuc, _-ℤ_}
@@ -7,7 +7,7 @@ use lib.Signed.{ltZ}
 use Rattle.numbers.specs.Choose.{choose}
 use Rattle.parts.specs.declared.drawing.Drawing.{Drawing}
 use Rattle.parts.specs.declared.drawing.Drawing.the-variants.{Nothing, Line, Codes, Block}
-use Rattle.rules.specs.Codes.{codeAt}
+use Rattle.rules.specs.Codes.{onlyMoves, stepsOf, codeAt}
 use Rattle.moves.specs.declared.Turn.{Turn}
 use Rattle.moves.specs.declared.Turn.the-variants.{Stay, Forth, Back}
 use Rattle.moves.specs.declared.Travel.{Travel}
@@ -52,7 +52,7 @@ inMask b pen =
 unfoldable pub isMove : Travel → Drawing → Bool
 isMove t (Nothing stopped) = false
 isMove t (Line rose done) = false
-isMove t (Codes count code done) = eqb (codeAt (t .figure .steps) count code / 16 % 2) 0
+isMove t (Codes count code done) = onlyMoves (codeAt (t .figure .steps) count code)
 isMove t (Block inside column row) = false
 
 -- 01, The functions: the first position of a line or code
@@ -66,7 +66,7 @@ isFirst (Block inside column row) = false
 unfoldable pub isLast : Travel → Drawing → Bool
 isLast t (Nothing stopped) = false
 isLast t (Line rose done) = eqb done (t .figure .dimensions .x)
-isLast t (Codes count code done) = eqb done (codeAt (t .figure .steps) count code % 16)
+isLast t (Codes count code done) = eqb done (stepsOf (codeAt (t .figure .steps) count code))
 isLast t (Block inside column row) = false
 
 -- 003, Area Boundary Drawing (lines 2024 to 2026): going up only the first of every horizontal run, going down only the last, going

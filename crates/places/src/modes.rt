@@ -18,6 +18,8 @@ use moves::steps::line_step;
 use moves::steps::moves_row;
 use parts::drawing::Drawing;
 use rules::codes::code_at;
+use rules::codes::only_moves;
+use rules::codes::steps_of;
 
 // Of a horizontal run, the first going up, the last going down, and none going level.
 fn of_run(down: Turn, first: bool, last: bool) -> bool
@@ -72,7 +74,7 @@ fn code_nulled(setup: Setup, code: u8, done: u16) -> bool
     ensures { λ r.
         ⌜ ((e : ℤ) (count i : ℕ) → code ≡ codeAt (setup .travel .figure .steps) count i → r ≡ nulledBy setup e (Codes count i done)) ⌝ }
 {
-    let last = done == code as u16 % 16;
+    let last = done == steps_of(code);
     let mode = setup.brush.flow.mode;
     match mode {
         1 => done == 0,
@@ -110,7 +112,7 @@ fn are_codes(drawing: Drawing) -> bool
 pub fn is_move(code: u8, drawing: Drawing) -> bool
     ensures { λ r. ⌜ r ≡ movesBy code drawing ⌝ }
 {
-    are_codes(drawing) & (code / 16 % 2 == 0)
+    are_codes(drawing) & only_moves(code)
 }
 
 // Whether the drawing mode leaves out a position, of this code where one is drawn.

@@ -19,11 +19,11 @@ abbrev μ-loop : tie.MeasureT-loop
 loop-holds : tie.Need-loop-holds Inv-loop μ-loop
 loop-holds c = (omega arith, refl)
 
-shared-slice-read-take-byte : tie.Need-shared-slice-read-take-byte Inv-loop μ-loop
-shared-slice-read-take-byte c = omega arith
+shared-slice-read-hear-byte : tie.Need-shared-slice-read-hear-byte Inv-loop μ-loop
+shared-slice-read-hear-byte c = omega arith
 
-take-byte-requires : tie.Need-take-byte-requires Inv-loop μ-loop
-take-byte-requires c κs = search needs
+hear-byte-requires : tie.Need-hear-byte-requires Inv-loop μ-loop
+hear-byte-requires c κs = search needs
 
 add-i : tie.Need-add-i Inv-loop μ-loop
 add-i c = omega arith
@@ -34,7 +34,7 @@ loop-less c = omega arith
 loop-again : tie.Need-loop-again Inv-loop μ-loop
 loop-again c =
     let l = c .before .before .before .before in
-    (omega arith, rw (c .take-byte .ensures) (sym (bytes-on _ _ _ (l .loop-test .taken)) ∙ l .before .loop .inv .1))
+    (omega arith, rw (c .hear-byte .ensures) (sym (bytes-on _ _ _ (l .loop-test .taken)) ∙ l .before .loop .inv .1))
 
 returns : tie.Need-returns Inv-loop μ-loop
 returns c = sym (bytes-end _ _ _ (c .loop-test .left)) ∙ c .before .loop .inv .1
@@ -46,8 +46,8 @@ take-piece-spec =
     Inv-loop
     μ-loop
     loop-holds
-    shared-slice-read-take-byte
-    take-byte-requires
+    shared-slice-read-hear-byte
+    hear-byte-requires
     add-i
     loop-less
     loop-again

@@ -5,8 +5,8 @@ use borrow.Author.Needs.{needs}
 use Rattle.coprocessor.proofs.Coprocessor.write_known.Statement.{statement}
 use Rattle.coprocessor.proofs.Coprocessor.write_known.Tie as tie
 
-latched-requires : tie.Need-latched-requires
-latched-requires c κs = search needs
+stored-requires : tie.Need-stored-requires
+stored-requires c κs = search needs
 
 starts-requires : tie.Need-starts-requires
 starts-requires c κs = search needs
@@ -15,11 +15,11 @@ lower-refusal-requires : tie.Need-lower-refusal-requires
 lower-refusal-requires c κs = search needs
 
 answered-requires : tie.Need-answered-requires
-answered-requires c κs = (c .before .before .latched .ensures, c .before .starts .ensures, c .lower-refusal .ensures ∙ sym (write-then10 _ _ ∙ valid-then10 _ _ (c .before .before .before .pre)))
+answered-requires c κs = (c .before .before .stored .ensures, c .before .starts .ensures, c .lower-refusal .ensures ∙ sym (write-then10 _ _ ∙ valid-then10 _ _ (c .before .before .before .pre)))
 
 returns : tie.Need-returns
 returns c = search needs
 
 pub write-known-spec : {M : Type 1} → statement M
 write-known-spec =
-    tie.close (tie.spec latched-requires starts-requires lower-refusal-requires answered-requires returns)
+    tie.close (tie.spec stored-requires starts-requires lower-refusal-requires answered-requires returns)

@@ -13,11 +13,11 @@ lay-head-requires c κs = search needs
 lay-maps-requires : tie.Need-lay-maps-requires
 lay-maps-requires c κs = search needs
 
-lay-figure-requires : tie.Need-lay-figure-requires
-lay-figure-requires c κs = search needs
+lay-lower-requires : tie.Need-lay-lower-requires
+lay-lower-requires c κs = search needs
 
-lay-pointers-requires : tie.Need-lay-pointers-requires
-lay-pointers-requires c κs = search needs
+lay-upper-requires : tie.Need-lay-upper-requires
+lay-upper-requires c κs = search needs
 
 same-length : tie.Need-same-length
 same-length c = search needs
@@ -26,7 +26,7 @@ returns : tie.Need-returns
 returns c =
     let maps = c .before .before .before .before .before .before .before .before .before .before in
     let head = maps .before .before .before .before in
-    rw (c .before .before .lay-pointers .ensures, c .before .before .before .before .before .before .lay-figure .ensures, maps .lay-maps .ensures, head .lay-head .ensures, head .before .before .counters-of .ensures)
+    rw (c .before .before .lay-upper .ensures, c .before .before .before .before .before .before .lay-lower .ensures, maps .lay-maps .ensures, head .lay-head .ensures, head .before .before .counters-of .ensures)
     (lay-fields _ _ _ _ _ (head .before .before .before .before .pre))
 
 pub lay-spec : {M : Type 1} → statement M
@@ -36,7 +36,7 @@ lay-spec =
     counters-of-requires
     lay-head-requires
     lay-maps-requires
-    lay-figure-requires
-    lay-pointers-requires
+    lay-lower-requires
+    lay-upper-requires
     same-length
     returns)

@@ -12,16 +12,17 @@ returns : tie.Need-returns
 unfolding wentBy penGone codesMoved
 returns c = let test = c .before .before .before in
     rw (
-      ← test .before .code-at .ensures,
+      ← test .before .before .code-at .ensures,
+      ← test .before .steps-of .ensures,
       lt-ltb _ _ (test .if1 .taken),
       c .way-along .ensures,
       c .before .before .code-step .ensures,
-      toZ-ofZ w32 (test .before .before .before .args .pen .e) (search needs),
+      toZ-ofZ w32 (test .before .before .before .before .args .pen .e) (search needs),
     )
 
 returns-2 : tie.Need-returns-2
 unfolding wentBy codesMoved
-returns-2 c = rw (← c .before .before .code-at .ensures, le-ltb _ _ (c .before .if1 .left), c .pass-code .ensures)
+returns-2 c = rw (← c .before .before .before .code-at .ensures, ← c .before .before .steps-of .ensures, le-ltb _ _ (c .before .if1 .left), c .pass-code .ensures)
 
 pub code-way-spec : {M : Type 1} → statement M
 code-way-spec =

@@ -1,5 +1,7 @@
 -- `pass_code` is the definition's choice, by whether a code follows and whether it is 00.
-use borrow.Author.Tests.{lt-ltb, le-ltb, eq-eqb, ne-eqb}
+use mathlib.Core.Path.{sym, ap, _∙_}
+use borrow.Author.Tests.{lt-ltb, le-ltb}
+use Rattle.rules.specs.Codes.{stops}
 use borrow.Author.Needs.{needs}
 use Rattle.moves.specs.Moves.{codePassed}
 use Rattle.moves.proofs.ways.pass_code.Statement.{statement}
@@ -14,13 +16,16 @@ add-following c = search needs
 code-at-requires : tie.Need-code-at-requires
 code-at-requires c κs = search needs
 
+stops-requires : tie.Need-stops-requires
+stops-requires c κs = search needs
+
 returns : tie.Need-returns
 unfolding codePassed
-returns c = rw (lt-ltb _ _ (c .before .before .if1 .taken), ← c .before .code-at .ensures, eq-eqb _ _ (c .if2 .taken))
+returns c = let at = c .before .before in simp (lt-ltb _ _ (at .before .if1 .taken), sym (c .before .stops .ensures ∙ ap stops (at .code-at .ensures)) ∙ c .if2 .taken)
 
 returns-2 : tie.Need-returns-2
 unfolding codePassed
-returns-2 c = rw (lt-ltb _ _ (c .before .before .if1 .taken), ← c .before .code-at .ensures, ne-eqb _ _ (c .if2 .left))
+returns-2 c = let at = c .before .before in simp (lt-ltb _ _ (at .before .if1 .taken), sym (c .before .stops .ensures ∙ ap stops (at .code-at .ensures)) ∙ c .if2 .left)
 
 returns-3 : tie.Need-returns-3
 unfolding codePassed
@@ -28,4 +33,4 @@ returns-3 c = rw (le-ltb _ _ (c .if1 .left))
 
 pub pass-code-spec : {M : Type 1} → statement M
 pass-code-spec =
-    tie.close (tie.spec add-if1 add-following code-at-requires returns returns-2 returns-3)
+    tie.close (tie.spec add-if1 add-following code-at-requires stops-requires returns returns-2 returns-3)

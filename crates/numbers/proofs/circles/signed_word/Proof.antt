@@ -1,9 +1,9 @@
 -- `signed_word` is the machine's reading of its four bytes: from the half on it is the mirror of its distance from the top.
 use mir.Syntax.{w32}
 use Rattle.numbers.proofs.SignedBytes.{mirror-fits, mirror-signed}
 use borrow.Author.Needs.{needs}
-use Rattle.image.proofs.reading.signed_word.Statement.{statement}
-use Rattle.image.proofs.reading.signed_word.Tie as tie
+use Rattle.numbers.proofs.circles.signed_word.Statement.{statement}
+use Rattle.numbers.proofs.circles.signed_word.Tie as tie
 
 cast-result : tie.Need-cast-result
 cast-result c = search needs

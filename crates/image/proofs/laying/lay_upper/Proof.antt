@@ -1,9 +1,9 @@
--- `lay_pointers` lays five fields: they follow each other from byte 95 on.
+-- `lay_upper` lays five fields: they follow each other from byte 95 on.
 use Rattle.numbers.specs.Bytes.{le}
 use Rattle.image.specs.Inner.{pointBytes, spotBytes, highBytes}
 use borrow.Author.Needs.{needs}
-use Rattle.image.proofs.laying.lay_pointers.Statement.{statement}
-use Rattle.image.proofs.laying.lay_pointers.Tie as tie
+use Rattle.image.proofs.laying.lay_upper.Statement.{statement}
+use Rattle.image.proofs.laying.lay_upper.Tie as tie
 
 lay-point-requires : tie.Need-lay-point-requires
 lay-point-requires c κs = search needs
@@ -29,8 +29,8 @@ returns c =
     let third = c .before .before .before .before .before .before .before .before .before .before in
     rw (c .before .before .store .ensures, c .before .before .before .before .before .before .lay-spot .ensures, third .lay-point3 .ensures, third .before .before .before .before .lay-point2 .ensures, third .before .before .before .before .before .before .before .before .lay-point .ensures)
 
-pub lay-pointers-spec : {M : Type 1} → statement M
-lay-pointers-spec =
+pub lay-upper-spec : {M : Type 1} → statement M
+lay-upper-spec =
     tie.close
     (tie.spec
     lay-point-requires

@@ -1,9 +1,9 @@
--- `lay_figure` lays five parts: they follow each other from byte 52 on.
+-- `lay_lower` lays five parts: they follow each other from byte 52 on.
 use Rattle.numbers.specs.Bytes.{le}
 use Rattle.image.specs.Inner.{termBytes, mixBytes, colourBytes, pointBytes, lowBytes}
 use borrow.Author.Needs.{needs}
-use Rattle.image.proofs.laying.lay_figure.Statement.{statement}
-use Rattle.image.proofs.laying.lay_figure.Tie as tie
+use Rattle.image.proofs.laying.lay_lower.Statement.{statement}
+use Rattle.image.proofs.laying.lay_lower.Tie as tie
 
 lay-terms-requires : tie.Need-lay-terms-requires
 lay-terms-requires c κs = search needs
@@ -29,8 +29,8 @@ returns c =
     let third = c .before .before .before .before .before .before .before .before .before .before in
     rw (c .before .before .lay-point .ensures, c .before .before .before .before .before .before .lay-colours .ensures, third .lay-mixes .ensures, third .before .before .before .before .store .ensures, third .before .before .before .before .before .before .before .before .lay-terms .ensures)
 
-pub lay-figure-spec : {M : Type 1} → statement M
-lay-figure-spec =
+pub lay-lower-spec : {M : Type 1} → statement M
+lay-lower-spec =
     tie.close
     (tie.spec
     lay-terms-requires

@@ -1,9 +1,9 @@
 -- `signed_half` is the machine's reading of its two bytes: from the half on it is the mirror of its distance from the top.
 use mir.Syntax.{w16}
 use Rattle.numbers.proofs.SignedBytes.{mirror-fits, mirror-signed}
 use borrow.Author.Needs.{needs}
-use Rattle.image.proofs.reading.signed_half.Statement.{statement}
-use Rattle.image.proofs.reading.signed_half.Tie as tie
+use Rattle.numbers.proofs.circles.signed_half.Statement.{statement}
+use Rattle.numbers.proofs.circles.signed_half.Tie as tie
 
 cast-result : tie.Need-cast-result
 cast-result c = search needs

@@ -1,9 +1,9 @@
--- `take_byte` ends the line at a newline, and gathers any other byte.
+-- `hear_byte` ends the line at a newline, and gathers any other byte.
 use borrow.Author.Tests.{eq-eqb, ne-eqb}
 use borrow.Author.Needs.{needs}
 use Rattle.bench.specs.Inner.{sessionOf, byteGathered, byteTaken}
-use Rattle.bench.proofs.take_byte.Statement.{statement}
-use Rattle.bench.proofs.take_byte.Tie as tie
+use Rattle.bench.proofs.hear_byte.Statement.{statement}
+use Rattle.bench.proofs.hear_byte.Tie as tie
 
 end-line-requires : tie.Need-end-line-requires
 end-line-requires c κs = search needs
@@ -19,5 +19,5 @@ returns-2 : tie.Need-returns-2
 unfolding sessionOf byteGathered byteTaken
 returns-2 c = rw (ne-eqb _ _ (c .before .before .before .if1 .left)) (cc)
 
-pub take-byte-spec : {M : Type 1} → statement M
-take-byte-spec = tie.close (tie.spec end-line-requires returns gather-requires returns-2)
+pub hear-byte-spec : {M : Type 1} → statement M
+hear-byte-spec = tie.close (tie.spec end-line-requires returns gather-requires returns-2)

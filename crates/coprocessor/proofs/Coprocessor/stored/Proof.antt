@@ -1,8 +1,8 @@
--- `latched` stores the write in every register that it touches: the records agree part by part.
+-- `stored` stores the write in every register that it touches: the records agree part by part.
 use Rattle.coprocessor.specs.Writes.{stored}
 use borrow.Author.Needs.{needs}
-use Rattle.coprocessor.proofs.Coprocessor.latched.Statement.{statement}
-use Rattle.coprocessor.proofs.Coprocessor.latched.Tie as tie
+use Rattle.coprocessor.proofs.Coprocessor.stored.Statement.{statement}
+use Rattle.coprocessor.proofs.Coprocessor.stored.Tie as tie
 
 latch-maps-requires : tie.Need-latch-maps-requires
 latch-maps-requires c κs = search needs
@@ -16,5 +16,5 @@ returns c =
     let self = c .before .before .before .before .args .self in
     λ i. record { size = self .size; maps = c .before .latch-maps .ensures i; registers = c .latch-registers .ensures i; drawing = self .drawing }
 
-pub latched-spec : {M : Type 1} → statement M
-latched-spec = tie.close (tie.spec latch-maps-requires latch-registers-requires returns)
+pub stored-spec : {M : Type 1} → statement M
+stored-spec = tie.close (tie.spec latch-maps-requires latch-registers-requires returns)
