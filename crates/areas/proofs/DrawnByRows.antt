@@ -38,7 +38,8 @@ unfolding validOf reducedOf registersReduced pointersReduced spotReduced
 destination-on c v = destination-circle-fixed (c .registers .pointers .destination .y) (search (v, and-left, and-right))
 
 -- 02, 102: a mode 11 line or code of a write form draws a position exactly if the one after it lies in the row below, or the one before it lay there
-pub drawn-by-rows : (c : Coprocessor) → validOf c ≡ true → (eqb (functionOf (c .registers .figure .operations)) 4 || eqb (functionOf (c .registers .figure .operations)) 5) ≡ true
+pub drawn-by-rows : (c : Coprocessor) → validOf c ≡ true
+    → (eqb (functionOf (c .registers .figure .operations)) 4 || eqb (functionOf (c .registers .figure .operations)) 5) ≡ true
     → drawingMode (c .registers .figure .operations) ≡ 3
     → atStart (c .drawing) ≡ true
     → (n : ℕ) → unfinished (penAfter (setupOf c .travel) n (penOf c) .drawing) ≡ true

@@ -65,7 +65,8 @@ module _ (s : Setup) (f : Fills s) (down : s .travel .course .y ≡ Forth) (t : 
   unfolding after
   at-row zero h v = rw (zero-mul (s .travel .figure .dimensions .x + 1)) (record { drawing = start; pattern = corner })
   at-row (suc row) h v =
-      let wide : suc row * (s .travel .figure .dimensions .x + 1) ≡ row * (s .travel .figure .dimensions .x + 1) + suc (s .travel .figure .dimensions .x) = omega arith in
+      let wide : suc row * (s .travel .figure .dimensions .x + 1)
+      ≡ row * (s .travel .figure .dimensions .x + 1) + suc (s .travel .figure .dimensions .x) = omega arith in
       rw (wide, after-add s (row * (s .travel .figure .dimensions .x + 1)) (suc (s .travel .figure .dimensions .x)) t)
       (next-row row (after s (row * (s .travel .figure .dimensions .x + 1)) t) (omega arith) (omega arith) (at-row row (omega arith) (omega arith)))
 

@@ -78,7 +78,8 @@ module _ (s : Setup) (f : Fills s) where
     unfolding moved movedBy blockMoved
     to-column less = ap (λ (d : Drawing). movedBy (s .travel) d pen) e ∙ choose-true _ _ (lt-ltb column (s .travel .figure .dimensions .x) less)
 
-    to-row : s .travel .figure .dimensions .x ≤ column → row < s .travel .figure .dimensions .y → moved (s .travel) pen ≡ rowPassed (s .travel) (Block false 0 (row + 1)) pen
+    to-row : s .travel .figure .dimensions .x ≤ column → row < s .travel .figure .dimensions .y → moved (s .travel) pen
+        ≡ rowPassed (s .travel) (Block false 0 (row + 1)) pen
     unfolding moved movedBy blockMoved
     to-row last another =
         ap (λ (d : Drawing). movedBy (s .travel) d pen) e

@@ -65,7 +65,8 @@ module _ (row : ℕ) (c : Coprocessor) (r : Row row c) (memory : List ℕ) where
 
   -- 003, Area Fill: of a row's positions the foreground are those with an odd number of 1s from the row's first to them
   pub row-filled : (n : ℕ) → n ≤ c .registers .figure .dimensions .x
-      → foregroundAfter c memory n ≡ isOdd (onesFrom memory (mapAt (c .maps) (patternField (c .registers .figure .operations))) (c .registers .pointers .pattern) (suc n))
+      → foregroundAfter c memory n ≡ isOdd (onesFrom memory (mapAt (c .maps) (patternField (c .registers .figure .operations)))
+      (c .registers .pointers .pattern) (suc n))
   unfolding foregroundAfter ranOf setupOf penOf travelOf begun
   row-filled n h =
       foreground-at (setupOf c) (fill-setup c going (r .function) (r .apart)) (begun (penOf c) memory) row (r .start) (pattern-inside c going (r .function)) n h
@@ -74,7 +75,12 @@ module _ (row : ℕ) (c : Coprocessor) (r : Row row c) (memory : List ℕ) where
   pub rows-start-outside : row < c .registers .figure .dimensions .y
       → (ranOf c memory (suc (c .registers .figure .dimensions .x)) .pen .drawing ≡ Block false 0 (row + 1))
       × (ranOf c memory (suc (c .registers .figure .dimensions .x)) .pen .pointers .pattern
-      ≡ record { x = c .registers .pointers .pattern .x; y = turnedBy (setupOf c .travel .course .y) 1 (mapAt (c .maps) (patternField (c .registers .figure .operations)) .height) (c .registers .pointers .pattern .y) })
+      ≡ record {
+        x = c .registers .pointers .pattern .x;
+        y =
+            turnedBy (setupOf c .travel .course .y) 1 (mapAt (c .maps) (patternField (c .registers .figure .operations)) .height)
+            (c .registers .pointers .pattern .y);
+      })
   unfolding ranOf setupOf penOf travelOf begun
   rows-start-outside another =
       row-after (setupOf c) (fill-setup c going (r .function) (r .apart)) (begun (penOf c) memory) row (r .start) (pattern-inside c going (r .function)) another

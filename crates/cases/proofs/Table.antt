@@ -58,4 +58,52 @@ unfolding numberOf byteOf partOf covers latchedBytes latched forth back residue 
     withInside isFill modeOf edgeOf rises placeX crossed takenOnto mapLatched termsLatched inkLatched compareLatched pointLatched spotLatched
     coloursLatched figureLatched pointersLatched registersLatched coloursReduced figureReduced registersReduced selected others freshRegisters
     withMoved pointersStarted travelOf brushOf depthOf mapValues otherValues valuesOf laidAt readFrom le
-table = (refl, ((refl, (refl, (refl, tt))), (refl, ((refl, (refl, (refl, tt))), (refl, ((refl, tt), (refl, ((refl, tt), (refl, ((refl, (refl, tt)), (refl, ((refl, tt), (refl, ((refl, tt), (refl, ((refl, tt), (refl, ((refl, tt), (refl, ((refl, tt), (refl, ((refl, tt), (refl, ((refl, (refl, tt)), (refl, ((refl, tt), tt))))))))))))))))))))))))))
+table = (
+  refl,
+  (
+    (refl, (refl, (refl, tt))),
+    (
+      refl,
+      (
+        (refl, (refl, (refl, tt))),
+        (
+          refl,
+          (
+            (refl, tt),
+            (
+              refl,
+              (
+                (refl, tt),
+                (
+                  refl,
+                  (
+                    (refl, (refl, tt)),
+                    (
+                      refl,
+                      (
+                        (refl, tt),
+                        (
+                          refl,
+                          (
+                            (refl, tt),
+                            (
+                              refl,
+                              (
+                                (refl, tt),
+                                (refl, ((refl, tt), (refl, ((refl, tt), (refl, ((refl, tt), (refl, ((refl, (refl, tt)), (refl, ((refl, tt), tt)))))))))),
+                              ),
+                            ),
+                          ),
+                        ),
+                      ),
+                    ),
+                  ),
+                ),
+              ),
+            ),
+          ),
+        ),
+      ),
+    ),
+  ),
+)

@@ -19,7 +19,8 @@ pub opened-accepts : (c : Coprocessor) (b : List ℕ) → isAccepted (loadAnswer
 unfolding loadAnswer
 opened-accepts c b = by (loads b)
   where
-    by : (t : Bool) → isAccepted (choose {A = Written} t (record { refusal = Accepted; coprocessor = loaded b }) (record { refusal = Image; coprocessor = c }) .refusal) ≡ t
+    by : (t : Bool) → isAccepted (choose {A = Written} t (record { refusal = Accepted; coprocessor = loaded b })
+        (record { refusal = Image; coprocessor = c }) .refusal) ≡ t
     by true = refl
     by false = refl
 

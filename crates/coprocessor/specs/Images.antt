@@ -58,7 +58,9 @@ remains f b =
     (countersHold f (Codes (fieldAt layout.count b) (fieldAt layout.passed b) (fieldAt layout.done b)) && not (eqb (stateIn b) 3))
     (countersHold f (Block (eqb (stateIn b) 3) (fieldAt layout.done b) (fieldAt layout.passed b)) && eqb (fieldAt layout.count b) 0))
 
--- 01, State image: accepted exactly when mark and version hold, the size is within its limit, the state is 0, 1, 2 or 3 (02, 102), and every reduction holds; in states 1 and 3 the start rules hold, a position remains, and used pointers lie in their maps; in the others bytes 10-14 are zero
+-- 01, State image: accepted exactly when mark and version hold, the size is within its limit, the state is 0, 1, 2 or 3 (02, 102), and every
+-- reduction holds; in states 1 and 3 the start rules hold, a position remains, and used pointers lie in their maps; in the others bytes 10-14 are
+-- zero
 unfoldable pub loads : List ℕ → Bool
 loads b =
     eqb (length b) imageLength

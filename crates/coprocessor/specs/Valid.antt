@@ -25,7 +25,8 @@ mapsReduced maps =
 unfoldable pub reducedOf : Coprocessor → Bool
 reducedOf c = mapsReduced (c .maps) && registersReduced (c .registers)
 
--- 01, State image: if a drawing is in hand, the start rules hold for a function that draws, a position remains at its counters, and used pointers lie in their maps
+-- 01, State image: if a drawing is in hand, the start rules hold for a function that draws, a position remains at its counters, and used pointers lie
+-- in their maps
 unfoldable pub goesOn : Coprocessor → Bool
 goesOn c =
     not (unfinished (c .drawing))

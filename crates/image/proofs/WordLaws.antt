@@ -1,4 +1,5 @@
--- Four bytes are those of the number that they make, so a word's bytes are those of its registers one after another, and a read that lies in one word reads a part of it.
+-- Four bytes are those of the number that they make, so a word's bytes are those of its registers one after another, and a read that lies in one word
+-- reads a part of it.
 use mathlib.Core.Path.{_≡_, sym}
 use mathlib.Core.List.{List, [], _∷_, _++_}
 use Prim.Native.Nat.{ℕ, zero, suc, _+_, _*_, _/_, _%_, _≤_, _<_}

@@ -8,7 +8,8 @@ use Rattle.parts.specs.declared.drawing.Drawing.the-variants.{Nothing, Line, Co
 use Rattle.rules.specs.Operations.{isLine, isCodes}
 use Rattle.image.specs.declared.counters.Counters.{Counters}
 
--- 01, State image: 9 state (0 idle, 1 drawing, 2 idle after stop; 02, 102: 3 drawing and inside), 10 positions done in this row, line or code, 12 rows or codes done, 14 codes in the starting write; counters not of the function are zero
+-- 01, State image: 9 state (0 idle, 1 drawing, 2 idle after stop; 02, 102: 3 drawing and inside), 10 positions done in this row, line or code, 12
+-- rows or codes done, 14 codes in the starting write; counters not of the function are zero
 unfoldable pub countersOf : Drawing → Counters
 countersOf (Nothing stopped) = record { state = choose stopped 2 0; done = 0; passed = 0; count = 0 }
 countersOf (Line rose done) = record { state = choose rose 3 1; done = done; passed = 0; count = 0 }

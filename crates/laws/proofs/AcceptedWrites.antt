@@ -1,4 +1,5 @@
--- What an accepted write says of the write and the record: each test that could refuse it was passed, in the order of the refusals; so what a write leaves is one of three records.
+-- What an accepted write says of the write and the record: each test that could refuse it was passed, in the order of the refusals; so what a write
+-- leaves is one of three records.
 use mathlib.Core.Path.{_≡_, refl}
 use mathlib.Core.Bool.{Bool, true, false, not, _&&_, _||_}
 use Rattle.numbers.specs.Bytes.{covers}

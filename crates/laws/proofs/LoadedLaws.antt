@@ -116,7 +116,8 @@ module _ (b : List ℕ) (small : (i : ℕ) → getD b i 0 < 256) where
         ∷ []
 
     fields-read : fieldsOf (loaded b .size) (loaded b .maps) (loaded b .registers) (loaded b .drawing) ≡ reads b 0 widths
-    unfolding fieldsOf headFields counterFields mapsFields mapFields registerFields others map mapAt loaded mapsFrom mapFrom registersFrom countersFrom widths reads
+    unfolding fieldsOf headFields counterFields mapsFields mapFields registerFields others map mapAt loaded mapsFrom mapFrom registersFrom countersFrom
+        widths reads
     fields-read = λ i.
         record { bytes = 3; value = mark i }
         ∷ record { bytes = 2; value = version i }

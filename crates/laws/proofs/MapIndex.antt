@@ -1,4 +1,5 @@
--- A write of the map index selects another map and does nothing else, since an accepted write that touches it covers that byte alone; and no write changes a map that the index does not select.
+-- A write of the map index selects another map and does nothing else, since an accepted write that touches it covers that byte alone; and no write
+-- changes a map that the index does not select.
 use mathlib.Core.Path.{_≡_, refl, sym, ap, _∙_}
 use mathlib.Core.Bool.{Bool, true, not, _&&_, _||_}
 use Prim.Native.Nat.{ℕ, zero, suc, _+_, _%_, _≤_, _<_}

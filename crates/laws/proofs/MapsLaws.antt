@@ -1,4 +1,5 @@
--- The four maps: where all are reduced, each that a field names is; and after a write the one that the index selects has taken its bytes and every other stays, since one place of the list is set.
+-- The four maps: where all are reduced, each that a field names is; and after a write the one that the index selects has taken its bytes and every
+-- other stays, since one place of the list is set.
 use mathlib.Core.Path.{_≡_}
 use mathlib.Core.Bool.{true}
 use mathlib.Core.List.{List, [], _∷_}

@@ -1,4 +1,5 @@
--- Reading after a write: a register that the write touches shows what it took, reduced, and every other shows what it did; register by register the record stores a choice, and reading back goes through it.
+-- Reading after a write: a register that the write touches shows what it took, reduced, and every other shows what it did; register by register the
+-- record stores a choice, and reading back goes through it.
 use mathlib.Core.Path.{_≡_, refl, sym, ap, _∙_}
 use mathlib.Core.Bool.{true, false}
 use mathlib.Core.List.{List, [], _∷_, zipWith}

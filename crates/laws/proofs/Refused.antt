@@ -1,4 +1,5 @@
--- No refused call changes anything: a write, run or load hands the record back, a run does nothing and leaves the memory, a save leaves the buffer, a read gives 0, by the choice that each answer makes; and a fresh state is valid, by computing every test.
+-- No refused call changes anything: a write, run or load hands the record back, a run does nothing and leaves the memory, a save leaves the buffer, a
+-- read gives 0, by the choice that each answer makes; and a fresh state is valid, by computing every test.
 use mathlib.Core.Path.{_≡_, refl, sym}
 use mathlib.Core.Bool.{Bool, true, false, not, false≢true}
 use mathlib.Core.List.{List}

@@ -1,4 +1,5 @@
--- Every write leaves a valid record valid: each group takes what is reduced, no drawing is in hand after an accepted write that starts none, and one that is started goes on by the rules of a start.
+-- Every write leaves a valid record valid: each group takes what is reduced, no drawing is in hand after an accepted write that starts none, and one
+-- that is started goes on by the rules of a start.
 use mathlib.Core.Path.{_≡_}
 use mathlib.Core.Bool.{true, false, not, _&&_, or-true}
 use Prim.Native.Nat.{ℕ}

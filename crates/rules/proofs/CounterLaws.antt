@@ -1,4 +1,5 @@
--- What the counters of a drawing in hand say, kind by kind; and that a start's drawing holds its counters, which are all 0, since a first code 00 sets no codes.
+-- What the counters of a drawing in hand say, kind by kind; and that a start's drawing holds its counters, which are all 0, since a first code 00
+-- sets no codes.
 use mathlib.Core.Path.{_≡_, refl}
 use mathlib.Core.Bool.{Bool, true, false, not, _&&_, _||_, false≢true, or-false}
 use Prim.Native.Nat.{ℕ, zero, suc, _%_, _≤_, _<_, zero-le}

@@ -1,4 +1,5 @@
--- A start leaves each used pointer in its map: a remainder by the map's size is at most the last column or row, and a pointer that lies there is its own remainder.
+-- A start leaves each used pointer in its map: a remainder by the map's size is at most the last column or row, and a pointer that lies there is its
+-- own remainder.
 use mathlib.Core.Path.{_≡_, refl}
 use mathlib.Core.Bool.{Bool, true, false, not, _||_}
 use mathlib.Core.List.{List}
@@ -71,7 +72,8 @@ module _ (operations : ℕ) (maps : List Map) (p : Pointers) where
       both-kept
       (both-kept
       (λ h. choose-either (λ (q : Point). pointReduced q ≡ true) (usesSource operations) (turned-reduced (mapAt maps (sourceField operations)) (p .source) h) h)
-      (λ h. choose-either (λ (q : Point). pointReduced q ≡ true) (usesPattern operations) (turned-reduced (mapAt maps (patternField operations)) (p .pattern) h) h))
+      (λ h. choose-either (λ (q : Point). pointReduced q ≡ true) (usesPattern operations)
+      (turned-reduced (mapAt maps (patternField operations)) (p .pattern) h) h))
       (λ h. h)
 
   pub pointers-started : pointersHold operations maps (pointersStarted operations maps p) ≡ true

@@ -1,4 +1,5 @@
--- The calls on a state image keep what the calls on a record promise: an image that loads is that of the record that it loads to, and every call leaves a valid record and saves it over the image, so the new image loads to that record.
+-- The calls on a state image keep what the calls on a record promise: an image that loads is that of the record that it loads to, and every call
+-- leaves a valid record and saves it over the image, so the new image loads to that record.
 use mathlib.Core.Path.{_≡_, refl, sym, ap, _∙_}
 use mathlib.Core.Bool.{Bool, true, false}
 use mathlib.Core.List.{List, [], _∷_, _++_}

@@ -1,4 +1,5 @@
--- A drawing cut and carried as often as one likes ends as the uncut one: two runs in a row are one, what is saved and loaded is the same record, and what else may happen changes nothing, so the events fold into one run, from the first on.
+-- A drawing cut and carried as often as one likes ends as the uncut one: two runs in a row are one, what is saved and loaded is the same record, and
+-- what else may happen changes nothing, so the events fold into one run, from the first on.
 use mathlib.Core.Path.{_≡_, refl, sym, ap, _∙_}
 use mathlib.Core.Bool.{true}
 use mathlib.Core.List.{List, [], _∷_}
@@ -37,7 +38,8 @@ write-stays w s spared = stays s _ _ (write-refused w (s .coprocessor) spared) r
 lent-stays : (other : List ℕ) (n : ℕ) (s : Stand) → Spares (Event.lent other n) s → happened (Event.lent other n) s ≡ s
 unfolding happened Spares
 lent-stays other n s none =
-    stays s _ _ (none-done (s .coprocessor) other n none) (let same : s .done + runAnswer (s .coprocessor) other n .done ≡ s .done = omega (arith, none) in same)
+    stays s _ _ (none-done (s .coprocessor) other n none)
+    (let same : s .done + runAnswer (s .coprocessor) other n .done ≡ s .done = omega (arith, none) in same)
 
 -- ---- a life
 
@@ -52,7 +54,8 @@ module _ (c : Coprocessor) (memory : List ℕ) (held : Held c) (accepted : isAcc
       let on : Continued c memory n a (runAnswer c memory n) (runMemory c memory n) = run-run c memory n a accepted in
       λ i. record { coprocessor = on .record-same i; memory = on .memory-same i; done = on .done-sum i; accepted = on .accepted i }
 
-  moved-along : (n : ℕ) (other : Coprocessor) (buffer : List ℕ) (long : length buffer ≡ imageLength) → happened (Event.movedTo other buffer long) (ran n) ≡ ran n
+  moved-along : (n : ℕ) (other : Coprocessor) (buffer : List ℕ) (long : length buffer ≡ imageLength) → happened (Event.movedTo other buffer long) (ran n)
+      ≡ ran n
   unfolding happened saves saveRefusal
   moved-along n other buffer long =
       let valid = run-valid c memory n (run-allowed c memory accepted .1) in

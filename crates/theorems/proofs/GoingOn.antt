@@ -56,7 +56,8 @@ goes-on c memory events held valid long quiet =
 pub drawing-goes-on : (w : Write) (c : Coprocessor) (memory : List ℕ) (events : List Event) → Held c
     → isAccepted (writeRefusal w c) ≡ true → startsBy w (stored w c) ≡ true → length memory ≡ writeAnswer w c .coprocessor .size
     → Undisturbed events (standing (writeAnswer w c .coprocessor) memory)
-    → WentOn (writeAnswer w c .coprocessor) memory (totalIn (writeAnswer w c .coprocessor)) events (lived events (standing (writeAnswer w c .coprocessor) memory))
+    → WentOn (writeAnswer w c .coprocessor) memory (totalIn (writeAnswer w c .coprocessor)) events
+    (lived events (standing (writeAnswer w c .coprocessor) memory))
 drawing-goes-on w c memory events held accepted starts long quiet =
     rw (← start-total w c accepted starts)
     (goes-on _ memory events (held-written w c held) (write-valid w c (accepted-allowed w c accepted .valid)) long quiet)

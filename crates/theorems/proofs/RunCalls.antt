@@ -1,4 +1,5 @@
--- Two run calls in a row are one, and a run does the positions left up to its allowance: a valid record stays valid, so the second call is accepted and goes on where the first ended.
+-- Two run calls in a row are one, and a run does the positions left up to its allowance: a valid record stays valid, so the second call is accepted
+-- and goes on where the first ended.
 use mathlib.Core.Path.{_≡_, refl, sym, ap, _∙_}
 use mathlib.Core.Bool.{Bool, true, false}
 use mathlib.Core.List.{List}

@@ -1,4 +1,5 @@
--- A write that starts a drawing leaves all of its positions, and a valid record has positions left exactly while a drawing is in hand: the counters of a start are 0, and counters that hold stand before the end.
+-- A write that starts a drawing leaves all of its positions, and a valid record has positions left exactly while a drawing is in hand: the counters
+-- of a start are 0, and counters that hold stand before the end.
 use mathlib.Core.Path.{_≡_, refl}
 use mathlib.Core.Bool.{Bool, true, false, true≢false}
 use mathlib.Core.Logic.{_↔_}

@@ -1,4 +1,5 @@
--- A drawing cut as often as one likes, carried from one coprocessor to another, and tried with calls that are refused: what may happen to it, and what that leaves.
+-- A drawing cut as often as one likes, carried from one coprocessor to another, and tried with calls that are refused: what may happen to it, and
+-- what that leaves.
 use Prim.Native.Nat.{ℕ, _+_, _≤_, min}
 use mathlib.Core.Path.{_≡_}
 use mathlib.Core.Bool.{Bool, true, false, _&&_}
@@ -33,7 +34,8 @@ pub data Event : Type 0 where
   -- 01, The functions: a run of another coprocessor over the drawing's memory
   others : (other : Coprocessor) (allowance : ℕ) → Event
 
--- docs/DECISIONS.md, 38: where a drawing stands: its coprocessor, its memory, the positions done since, and whether every run over its memory and every move was accepted
+-- docs/DECISIONS.md, 38: where a drawing stands: its coprocessor, its memory, the positions done since, and whether every run over its memory and
+-- every move was accepted
 pub record Stand : Type 0 where
   pub coprocessor : Coprocessor
   pub memory : List ℕ

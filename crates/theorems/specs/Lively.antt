@@ -15,7 +15,8 @@ sources = 0 ∷ 0 ∷ 1 ∷ 0 ∷ 1 ∷ 1 ∷ 1 ∷ 1 ∷ 1 ∷ 0 ∷ 0 ∷ 0 �
 abbrev pub destinations : List ℕ
 destinations = 1 ∷ 1 ∷ 1 ∷ 1 ∷ 1 ∷ 0 ∷ 0 ∷ 0 ∷ 1 ∷ 1 ∷ 0 ∷ 1 ∷ 1 ∷ 0 ∷ 1 ∷ 0 ∷ 0 ∷ 1 ∷ 0 ∷ 1 ∷ 1 ∷ 1 ∷ []
 
--- 01, Registers: a write covering 7F starts the function, and one covering 2F draw and step, here by a code of one drawn position; 02, 102: a fill has a pattern map
+-- 01, Registers: a write covering 7F starts the function, and one covering 2F draw and step, here by a code of one drawn position; 02, 102: a fill
+-- has a pattern map
 unfoldable pub startFor : ℕ → List Act
 startFor function =
     choose (eqb function 10) (write 0x12 1 2 ∷ write 0x14 4 1 ∷ write 0x7C 4 0x0A012000 ∷ [])

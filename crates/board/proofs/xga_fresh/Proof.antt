@@ -25,7 +25,8 @@ long-number : (image : List ℕ) (size : ℕ) → length image ≡ imageLength �
 unfolding freshNumber freshAnswer saves saveRefusal
 long-number image size long =
     by-test
-    (λ (r : Written). refusalNumber (r .refusal) ≡ choose (isAccepted (r .refusal)) (refusalNumber (saveRefusal (r .coprocessor) image)) (refusalNumber (r .refusal)))
+    (λ (r : Written). refusalNumber (r .refusal)
+    ≡ choose (isAccepted (r .refusal)) (refusalNumber (saveRefusal (r .coprocessor) image)) (refusalNumber (r .refusal)))
     (sizeHolds size)
     (λ holds. rw (eq-eqb _ _ long, fresh-valid size holds))
     (λ other. refl)

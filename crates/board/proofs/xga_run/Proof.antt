@@ -23,7 +23,8 @@ fine : (c : tie.After-state) → loads (c .before .before .before .before .befor
 fine c = sym (opened (c .before .before)) ∙ not-false _ (c .before .if1 .left)
 
 -- the record that the run starts from
-begun : (c : tie.After-state) → c .before .before .before .unpack .result .coprocessor ≡ loaded (c .before .before .before .before .before .before .before .args .image .now)
+begun : (c : tie.After-state) → c .before .before .before .unpack .result .coprocessor
+    ≡ loaded (c .before .before .before .before .before .before .before .args .image .now)
 begun c = ap (λ (a : Written). a .coprocessor) (c .before .before .before .unpack .ensures) ∙ open-record _ (fine c)
 
 unpack-requires : tie.Need-unpack-requires
@@ -70,7 +71,8 @@ returns-2 c =
     let drawn = ran .0 ∙ ap (λ (s : Coprocessor). runAnswer s (a .memory .now) (a .allowance)) (begun state) in
     let valid = run-valid (loaded (a .image .now)) (a .memory .now) (a .allowance) (loaded-valid _ good) in (
       simp good (c .answer2 .ensures ∙ ap (λ (d : Drawn). callAnswer (d .refusal) (d .done)) drawn),
-      simp good (c .before .before .before .save-known .ensures ∙ ap (λ (d : Drawn). imageOf (d .coprocessor)) drawn ∙ sym (saved-valid _ _ (loads-length _ good) valid)),
+      simp good (c .before .before .before .save-known .ensures ∙ ap (λ (d : Drawn). imageOf (d .coprocessor)) drawn
+          ∙ sym (saved-valid _ _ (loads-length _ good) valid)),
       simp good (ran .1 ∙ ap (λ (s : Coprocessor). runMemory s (a .memory .now) (a .allowance)) (begun state)),
     )
 

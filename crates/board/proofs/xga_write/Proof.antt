@@ -47,7 +47,8 @@ returns-2 c =
     let w : Write = record { offset = a .offset; length = a .length; value = a .value } in
     let accepted = c .before .before .accepts2 .ensures ∙ ap (λ (r : Written). isAccepted (r .refusal)) done in
     let kept = write-refused w (loaded (a .image .now)) (sym accepted ∙ not-true _ (c .before .if2 .taken)) in
-    let bytes : (i : ℕ) → getD (a .image .now) i 0 < 256 = λ i. c .before .before .before .before .before .before .before .before .slice-known .given i .fits in (
+    let bytes : (i : ℕ) → getD (a .image .now) i 0 < 256 =
+    λ i. c .before .before .before .before .before .before .before .before .slice-known .given i .fits in (
       simp good (c .number .ensures ∙ ap (λ (r : Written). refusalNumber (r .refusal)) done),
       simp good (sym (ap (λ (s : Coprocessor). saved s (a .image .now)) kept ∙ save-load _ _ good bytes (loads-length _ good))),
     )
@@ -61,7 +62,8 @@ returns-3 c =
     let w : Write = record { offset = a .offset; length = a .length; value = a .value } in
     let valid = write-valid w (loaded (a .image .now)) (loaded-valid _ good) in (
       simp good (c .number2 .ensures ∙ ap (λ (r : Written). refusalNumber (r .refusal)) done),
-      simp good (c .before .before .before .save-known .ensures ∙ ap (λ (r : Written). imageOf (r .coprocessor)) done ∙ sym (saved-valid _ _ (loads-length _ good) valid)),
+      simp good (c .before .before .before .save-known .ensures ∙ ap (λ (r : Written). imageOf (r .coprocessor)) done
+          ∙ sym (saved-valid _ _ (loads-length _ good) valid)),
     )
 
 pub xga-write-spec : {M : Type 1} → statement M

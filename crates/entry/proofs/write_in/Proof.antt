@@ -1,4 +1,5 @@
--- A walk of the function's MIR, by hand: the borrow is opened, the record copied out and passed to the covered form, its answer's record stored over the old one, and the borrow closed at that; of the three callees only their contracts are known.
+-- A walk of the function's MIR, by hand: the borrow is opened, the record copied out and passed to the covered form, its answer's record stored over
+-- the old one, and the borrow closed at that; of the three callees only their contracts are known.
 use mathlib.Core.Path.{_≡_, refl, ap, _∙_}
 use Prim.Native.Nat.{ℕ, _<_, _^_}
 use mathlib.Core.List.{[], _∷_, List}
@@ -98,10 +99,12 @@ module _ {M : Type 1} (𝓤 : URA M) (H : Heap 𝓤) (A : Atoms 𝓤) (at-mem : 
       → ent 𝓤 (ensured 𝓤 H A written.ended (written.clauses 𝓤 H A at-mem run) tt (c, (k, (l, (m, tt)))) tt r) (fact 𝓤 (r ≡ writeAnswer (write k l m) c))
   wrote-of c k l m r = exE 𝓤 _ (λ ws. snd∗ 𝓤 (sem 𝓤 H A (lasts written.ended tt (c, (k, (l, (m, tt)))) ws)) (fact 𝓤 (r ≡ writeAnswer (write k l m) c)))
 
-  record-is : (w : Written) (r : Coprocessor) → ent 𝓤 (ensured 𝓤 H A record-of.ended (record-of.clauses 𝓤 H A at-mem run) tt (w, tt) tt r) (fact 𝓤 (r ≡ w .coprocessor))
+  record-is : (w : Written) (r : Coprocessor)
+      → ent 𝓤 (ensured 𝓤 H A record-of.ended (record-of.clauses 𝓤 H A at-mem run) tt (w, tt) tt r) (fact 𝓤 (r ≡ w .coprocessor))
   record-is w r = exE 𝓤 _ (λ ws. snd∗ 𝓤 (sem 𝓤 H A (lasts record-of.ended tt (w, tt) ws)) (fact 𝓤 (r ≡ w .coprocessor)))
 
-  refusal-is : (w : Written) (r : Refusal) → ent 𝓤 (ensured 𝓤 H A refusal-of.ended (refusal-of.clauses 𝓤 H A at-mem run) tt (w, tt) tt r) (fact 𝓤 (r ≡ w .refusal))
+  refusal-is : (w : Written) (r : Refusal)
+      → ent 𝓤 (ensured 𝓤 H A refusal-of.ended (refusal-of.clauses 𝓤 H A at-mem run) tt (w, tt) tt r) (fact 𝓤 (r ≡ w .refusal))
   refusal-is w r = exE 𝓤 _ (λ ws. snd∗ 𝓤 (sem 𝓤 H A (lasts refusal-of.ended tt (w, tt) ws)) (fact 𝓤 (r ≡ w .refusal)))
 
 module _ {M : Type 1} (𝓤 : URA M) (H : Heap 𝓤) (A : Atoms 𝓤) (W : Given 𝓤 H A) (at-mem : Memory → SProp 𝓤) (run : Routine → Fun 𝓤)
@@ -117,10 +120,12 @@ module _ {M : Type 1} (𝓤 : URA M) (H : Heap 𝓤) (A : Atoms 𝓤) (W : Given
 
   module _ (fk : k < 2 ^ 32) (fl : l < 2 ^ 32) (fm : m < 2 ^ 32) where
     exits : (n : Refusal) (v : Val) (c : Coprocessor) → n ≡ writeAnswer (write k l m) h .refusal → c ≡ writeAnswer (write k l m) h .coprocessor
-        → ent 𝓤 (sep 𝓤 (A .obs γ (T.the-row .coded .code c)) (sep 𝓤 (A .bor κ (Body (mem T.the-row) b o γ)) (sep 𝓤 (A .lft κ q) (sem 𝓤 H A (R.the-row .own n (v ∷ [])))))) (Post v)
+        → ent 𝓤 (sep 𝓤 (A .obs γ (T.the-row .coded .code c))
+        (sep 𝓤 (A .bor κ (Body (mem T.the-row) b o γ)) (sep 𝓤 (A .lft κ q) (sem 𝓤 H A (R.the-row .own n (v ∷ [])))))) (Post v)
     exits n v c e e′ =
         qed W (‵ (fobs γ (T.the-row .coded .code c)) ∷ ‵ (fbor κ (Body (mem T.the-row) b o γ)) ∷ ‵ (flft κ q) ∷ ‵ (R.the-row .own n (v ∷ [])) ∷ []) ∵
-        suffices ! _ (ends-at 𝓤 H A write-in.ended stayed (write-in.clauses 𝓤 H A at-mem run) W (((κ, tt), (q, tt), tt, x, at), tt) v n (c, (tt, (tt, (tt, tt)))) (tt, (tt, (tt, (tt, tt))))) $
+        suffices ! _ (ends-at 𝓤 H A write-in.ended stayed (write-in.clauses 𝓤 H A at-mem run) W (((κ, tt), (q, tt), tt, x, at), tt) v n
+        (c, (tt, (tt, (tt, tt)))) (tt, (tt, (tt, (tt, tt))))) $
         says ! (e, e′) $ nothing ! $ move ! (3 ∷ 0 ∷ []) $ join ! $ frame ! $ feqI ! (List Val) (vptr b o ∷ []) (vptr b o ∷ []) refl $ fjoin3 ! $ nothing ! $
         owned ! u32 (Is u32) (uint-makes 𝓤 H A W w32) m _ (refl, fm) $ fjoin ! $ owned ! u32 (Is u32) (uint-makes 𝓤 H A W w32) l _ (refl, fl) $ fjoin ! $
         owned ! u32 (Is u32) (uint-makes 𝓤 H A W w32) k _ (refl, fk) $ fjoin ! $ move ! (1 ∷ 0 ∷ []) $ fjoin ! $ done !
@@ -147,41 +152,64 @@ module _ {M : Type 1} (𝓤 : URA M) (H : Heap 𝓤) (A : Atoms 𝓤) (W : Given
   goes-refusal r v = qed W (‵ (S.the-row .own r (v ∷ [])) ∷ []) ∵ nothing ! $ move ! (1 ∷ 0 ∷ []) $ join ! $ nothing ! $ join ! $ frame ! $ done !
 
   module _ (C : Calls 𝓤 H) (Λ : Loops 𝓤 H) (fm : FmC 𝓤 H (W .laws) C) (known-written : Triple 𝓤 (C #entry·written) (Wrote 𝓤 H A at-mem run))
-      (known-record : Triple 𝓤 (C #entry·record-of) (RecordOf 𝓤 H A at-mem run)) (known-refusal : Triple 𝓤 (C #entry·refusal-of) (RefusalOf 𝓤 H A at-mem run)) where
-    walk : ent 𝓤 (onEntry 𝓤 H A write-in.signature (κ, tt) (q, tt) x at) (WpFn 𝓤 H C Λ code.function (vptr b o ∷ vint w32 k ∷ vint w32 l ∷ vint w32 m ∷ []) Post)
+      (known-record : Triple 𝓤 (C #entry·record-of) (RecordOf 𝓤 H A at-mem run))
+      (known-refusal : Triple 𝓤 (C #entry·refusal-of) (RefusalOf 𝓤 H A at-mem run)) where
+    walk : ent 𝓤 (onEntry 𝓤 H A write-in.signature (κ, tt) (q, tt) x at)
+        (WpFn 𝓤 H C Λ code.function (vptr b o ∷ vint w32 k ∷ vint w32 l ∷ vint w32 m ∷ []) Post)
     walk =
-        qed W ((‵ (flft κ q) ⊛ ‵ ftrue) ∷ ‵ (owns (MutRef (named 0) κ T.the-row ∷ u32 ∷ u32 ∷ u32 ∷ []) x at) ∷ []) ∵ split ! $ move ! (2 ∷ []) $ fsplit ! $ move ! (1 ∷ []) $ fsplit ! $
+        qed W ((‵ (flft κ q) ⊛ ‵ ftrue) ∷ ‵ (owns (MutRef (named 0) κ T.the-row ∷ u32 ∷ u32 ∷ u32 ∷ []) x at) ∷ []) ∵ split ! $ move !
+        (2 ∷ []) $ fsplit ! $ move ! (1 ∷ []) $ fsplit ! $
         peeks ! u32 (Is u32) (shows 𝓤 H A u32) k (vint w32 k ∷ []) (λ gk. move ! (1 ∷ []) $ fsplit ! $
         peeks ! u32 (Is u32) (shows 𝓤 H A u32) l (vint w32 l ∷ []) (λ gl. move ! (1 ∷ []) $ fsplit ! $
         peeks ! u32 (Is u32) (shows 𝓤 H A u32) m (vint w32 m ∷ []) (λ gm. move ! (4 ∷ []) $ fsplit3 ! $ drop ! $ move ! (0 ∷ 1 ∷ 6 ∷ []) $
         -- the context is now: what observes the reference's value; the borrow; the lifetime's token; and what the numbers own
         enter ! C Λ code.function (vptr b o ∷ vint w32 k ∷ vint w32 l ∷ vint w32 m ∷ []) _ $
         alloc1 ! (λ l₀. alloc1 ! (λ l₁. alloc1 ! (λ l₂. alloc1 ! (λ l₃. alloc1 ! (λ l₄. alloc1 ! (λ l₅. alloc1 ! (λ l₆. alloc0 ! $ params1 ! $
-        pass1 ! (init ! 10 refl (tt, tt)) $ pass1 ! (init ! 8 refl (tt, record { fits = gk .1 })) $ pass1 ! (init ! 6 refl (tt, record { fits = gl .1 })) $ pass1 ! (init ! 4 refl (tt, record { fits = gm .1 })) $ pass0 ! $
-        move ! (14 ∷ 15 ∷ 16 ∷ []) $ opens ! tt T.the-row {h = h} b o (λ vs. spelt ! T.the-row (Is T.the-row) (shows 𝓤 H A T.the-row) vals (LL.tells T.the-type T′.the-laws) fullShare h vs b o $
-        -- the context is now: the record's cell; what the record owns; the open borrow; what observes the reference's value, and what holds it; and the locals, the last first
+        pass1 ! (init ! 10 refl (tt, tt)) $ pass1 ! (init ! 8 refl (tt, record { fits = gk .1 })) $ pass1 !
+        (init ! 6 refl (tt, record { fits = gl .1 })) $ pass1 ! (init ! 4 refl (tt, record { fits = gm .1 })) $ pass0 ! $
+        move ! (14 ∷ 15 ∷ 16 ∷ []) $ opens ! tt T.the-row {h = h} b o
+        (λ vs. spelt ! T.the-row (Is T.the-row) (shows 𝓤 H A T.the-row) vals (LL.tells T.the-type T′.the-laws) fullShare h vs b o $
+        -- the context is now: the record's cell; what the record owns; the open borrow; what observes the reference's value, and what holds it; and
+        -- the locals, the last first
         move ! (1 ∷ []) $ peeks ! T.the-row (Is T.the-row) (shows 𝓤 H A T.the-row) h (vals h) (λ is.
-        assigns ! (of-opd ! (load ! (from ! (hop ! (look ! 15 refl) (stop !))) (look-raw ! 1 refl))) (from ! (stop !)) (init ! 5 refl (LL.lawful T.the-type T′.the-laws 𝓤 H A W .typed h _ is .0)) $
+        assigns ! (of-opd ! (load ! (from ! (hop ! (look ! 15 refl) (stop !))) (look-raw ! 1 refl))) (from ! (stop !))
+        (init ! 5 refl (LL.lawful T.the-type T′.the-laws 𝓤 H A W .typed h _ is .0)) $
         use1 W (raw (Wrote 𝓤 H A at-mem run .pre (to-written (gk .1) (gl .1) (gm .1)))) (goes-written (gk .1) (gl .1) (gm .1)) $
-        calls-at ! fm (Wrote 𝓤 H A at-mem run) known-written (to-written (gk .1) (gl .1) (gm .1)) (and-then ! (load ! (from ! (stop !)) (look ! 5 refl)) (and-then ! (load ! (from ! (stop !)) (look ! 13 refl)) (and-then ! (load ! (from ! (stop !)) (look ! 11 refl)) (and-then ! (load ! (from ! (stop !)) (look ! 9 refl)) (no-more !))))) (λ v.
-        use1 W (later (some (λ (r : Written). (‵ ftrue ⊛ ‵ (S.the-row .own r (v ∷ []))) ⊛ raw (ensured 𝓤 H A written.ended (written.clauses 𝓤 H A at-mem run) tt (h, (k, (l, (m, tt)))) tt r)))) (id⊢ 𝓤 _) $ await ! tt $ pick ! (λ r.
-        split ! $ move ! (1 ∷ []) $ use1 W (raw (fact 𝓤 (r ≡ writeAnswer (write k l m) h))) (wrote-of 𝓤 H A at-mem run h k l m r) $ heard ! (r ≡ writeAnswer (write k l m) h) (λ e₁. split ! $ drop ! $
-        peeks ! S.the-row (Is S.the-row) (shows 𝓤 H A S.the-row) r (v ∷ []) (λ is₁. land ! (from ! (stop !)) (init ! 7 refl (LL.lawful S.the-type S′.the-laws 𝓤 H A W .typed r _ is₁ .0)) $
+        calls-at ! fm (Wrote 𝓤 H A at-mem run) known-written (to-written (gk .1) (gl .1) (gm .1))
+        (and-then ! (load ! (from ! (stop !)) (look ! 5 refl))
+        (and-then ! (load ! (from ! (stop !)) (look ! 13 refl))
+        (and-then ! (load ! (from ! (stop !)) (look ! 11 refl)) (and-then ! (load ! (from ! (stop !)) (look ! 9 refl)) (no-more !))))) (λ v.
+        use1 W (later (some (λ (r : Written). (‵ ftrue ⊛ ‵ (S.the-row .own r (v ∷ []))) ⊛ raw
+        (ensured 𝓤 H A written.ended (written.clauses 𝓤 H A at-mem run) tt (h, (k, (l, (m, tt)))) tt r)))) (id⊢ 𝓤 _) $ await ! tt $ pick ! (λ r.
+        split ! $ move ! (1 ∷ []) $ use1 W (raw (fact 𝓤 (r ≡ writeAnswer (write k l m) h))) (wrote-of 𝓤 H A at-mem run h k l m r) $ heard !
+        (r ≡ writeAnswer (write k l m) h) (λ e₁. split ! $ drop ! $
+        peeks ! S.the-row (Is S.the-row) (shows 𝓤 H A S.the-row) r (v ∷ [])
+        (λ is₁. land ! (from ! (stop !)) (init ! 7 refl (LL.lawful S.the-type S′.the-laws 𝓤 H A W .typed r _ is₁ .0)) $
         use1 W (raw (RecordOf 𝓤 H A at-mem run .pre (to-record r v))) (goes-record r v) $
         calls-at ! fm (RecordOf 𝓤 H A at-mem run) known-record (to-record r v) (and-then ! (load ! (from ! (stop !)) (look ! 7 refl)) (no-more !)) (λ v′.
-        use1 W (later (some (λ (c : Coprocessor). (‵ ftrue ⊛ ‵ (T.the-row .own c (v′ ∷ []))) ⊛ raw (ensured 𝓤 H A record-of.ended (record-of.clauses 𝓤 H A at-mem run) tt (r, tt) tt c)))) (id⊢ 𝓤 _) $ await ! tt $ pick ! (λ c.
-        split ! $ move ! (1 ∷ []) $ use1 W (raw (fact 𝓤 (c ≡ r .coprocessor))) (record-is 𝓤 H A at-mem run r c) $ heard ! (c ≡ r .coprocessor) (λ e₂. split ! $ drop ! $
-        peeks ! T.the-row (Is T.the-row) (shows 𝓤 H A T.the-row) c (v′ ∷ []) (λ is₂. land ! (from ! (stop !)) (store ! 5 refl (LL.lawful T.the-type T′.the-laws 𝓤 H A W .typed c _ is₂ .0)) $
-        assigns ! (of-opd ! (load ! (from ! (stop !)) (look ! 5 refl))) (from ! (hop ! (look ! 15 refl) (stop !))) (store-raw ! 1 refl (LL.lawful T.the-type T′.the-laws 𝓤 H A W .typed c _ is₂ .0)) $
-        owned ! S.the-row (Is S.the-row) (LL.makes S.the-type S′.the-plain 𝓤 H A) r _ is₁ $ use1 W (raw (RefusalOf 𝓤 H A at-mem run .pre (to-refusal r v))) (goes-refusal r v) $
+        use1 W (later (some (λ (c : Coprocessor). (‵ ftrue ⊛ ‵ (T.the-row .own c (v′ ∷ []))) ⊛ raw
+        (ensured 𝓤 H A record-of.ended (record-of.clauses 𝓤 H A at-mem run) tt (r, tt) tt c)))) (id⊢ 𝓤 _) $ await ! tt $ pick ! (λ c.
+        split ! $ move ! (1 ∷ []) $ use1 W (raw (fact 𝓤 (c ≡ r .coprocessor))) (record-is 𝓤 H A at-mem run r c) $ heard ! (c ≡ r .coprocessor)
+        (λ e₂. split ! $ drop ! $
+        peeks ! T.the-row (Is T.the-row) (shows 𝓤 H A T.the-row) c (v′ ∷ [])
+        (λ is₂. land ! (from ! (stop !)) (store ! 5 refl (LL.lawful T.the-type T′.the-laws 𝓤 H A W .typed c _ is₂ .0)) $
+        assigns ! (of-opd ! (load ! (from ! (stop !)) (look ! 5 refl))) (from ! (hop ! (look ! 15 refl) (stop !)))
+        (store-raw ! 1 refl (LL.lawful T.the-type T′.the-laws 𝓤 H A W .typed c _ is₂ .0)) $
+        owned ! S.the-row (Is S.the-row) (LL.makes S.the-type S′.the-plain 𝓤 H A) r _ is₁ $ use1 W
+        (raw (RefusalOf 𝓤 H A at-mem run .pre (to-refusal r v))) (goes-refusal r v) $
         calls-at ! fm (RefusalOf 𝓤 H A at-mem run) known-refusal (to-refusal r v) (and-then ! (load ! (from ! (stop !)) (look ! 8 refl)) (no-more !)) (λ v″.
-        use1 W (later (some (λ (n : Refusal). (‵ ftrue ⊛ ‵ (R.the-row .own n (v″ ∷ []))) ⊛ raw (ensured 𝓤 H A refusal-of.ended (refusal-of.clauses 𝓤 H A at-mem run) tt (r, tt) tt n)))) (id⊢ 𝓤 _) $ await ! tt $ pick ! (λ n.
-        split ! $ move ! (1 ∷ []) $ use1 W (raw (fact 𝓤 (n ≡ r .refusal))) (refusal-is 𝓤 H A at-mem run r n) $ heard ! (n ≡ r .refusal) (λ e₃. split ! $ drop ! $
-        peeks ! R.the-row (Is R.the-row) (shows 𝓤 H A R.the-row) n (v″ ∷ []) (λ is₃. land ! (from ! (stop !)) (init ! 18 refl (EL.lawful R.the-type R′.the-laws 𝓤 H A W tt .typed n _ is₃ .0)) $
+        use1 W (later (some (λ (n : Refusal). (‵ ftrue ⊛ ‵ (R.the-row .own n (v″ ∷ []))) ⊛ raw
+        (ensured 𝓤 H A refusal-of.ended (refusal-of.clauses 𝓤 H A at-mem run) tt (r, tt) tt n)))) (id⊢ 𝓤 _) $ await ! tt $ pick ! (λ n.
+        split ! $ move ! (1 ∷ []) $ use1 W (raw (fact 𝓤 (n ≡ r .refusal))) (refusal-is 𝓤 H A at-mem run r n) $ heard ! (n ≡ r .refusal)
+        (λ e₃. split ! $ drop ! $
+        peeks ! R.the-row (Is R.the-row) (shows 𝓤 H A R.the-row) n (v″ ∷ [])
+        (λ is₃. land ! (from ! (stop !)) (init ! 18 refl (EL.lawful R.the-type R′.the-laws 𝓤 H A W tt .typed n _ is₃ .0)) $
         move ! (2 ∷ 1 ∷ 3 ∷ 4 ∷ 5 ∷ []) $ closes ! tt T.the-row c (v′ ∷ []) b o $
         returns ! (look ! 16 refl) $ forget ! 4 refl $ forget ! 6 refl $ forget ! 8 refl $ forget ! 10 refl $ forget ! 12 refl $ forget ! 14 refl $ forget ! 16 refl $
-        move ! (16 ∷ 17 ∷ []) $ free1 ! $ move ! (14 ∷ 15 ∷ []) $ free1 ! $ move ! (12 ∷ 13 ∷ []) $ free1 ! $ move ! (10 ∷ 11 ∷ []) $ free1 ! $ move ! (8 ∷ 9 ∷ []) $ free1 ! $ move ! (6 ∷ 7 ∷ []) $ free1 ! $ move ! (4 ∷ 5 ∷ []) $ free1 ! $ free0 ! $
-        keep ! (0 ∷ 1 ∷ 2 ∷ 3 ∷ []) $ by ! (exits (gk .1) (gl .1) (gm .1) n v″ c (e₃ ∙ ap (λ (w : Written). w .refusal) e₁) (e₂ ∙ ap (λ (w : Written). w .coprocessor) e₁))))))))))))))))))))))))))
+        move ! (16 ∷ 17 ∷ []) $ free1 ! $ move ! (14 ∷ 15 ∷ []) $ free1 ! $ move ! (12 ∷ 13 ∷ []) $ free1 ! $ move ! (10 ∷ 11 ∷ []) $ free1 ! $ move !
+        (8 ∷ 9 ∷ []) $ free1 ! $ move ! (6 ∷ 7 ∷ []) $ free1 ! $ move ! (4 ∷ 5 ∷ []) $ free1 ! $ free0 ! $
+        keep ! (0 ∷ 1 ∷ 2 ∷ 3 ∷ []) $ by ! (exits (gk .1) (gl .1) (gm .1) n v″ c (e₃ ∙ ap (λ (w : Written). w .refusal) e₁)
+        (e₂ ∙ ap (λ (w : Written). w .coprocessor) e₁))))))))))))))))))))))))))
 
 module _ {M : Type 1} (𝓤 : URA M) (H : Heap 𝓤) (A : Atoms 𝓤) (W : Given 𝓤 H A) (at-mem : Memory → SProp 𝓤) (run : Routine → Fun 𝓤) where
   write-in-walks : (C : Calls 𝓤 H) (Λ : Loops 𝓤 H) → FmC 𝓤 H (W .laws) C → Triple 𝓤 (C #entry·written) (Wrote 𝓤 H A at-mem run)
@@ -192,7 +220,8 @@ module _ {M : Type 1} (𝓤 : URA M) (H : Heap 𝓤) (A : Atoms 𝓤) (W : Given
       (λ κs. (ptr-vals, (uint-vals w32, (uint-vals w32, (uint-vals w32, tt)))))
       (λ κs. (mut-tells (named 0) (κs .0) T.the-row, (uint-tells w32, (uint-tells w32, (uint-tells w32, tt)))))
       (λ κs qs bounds a _ _. via 𝓤 _ (fst∗ 𝓤 _ (emp 𝓤))
-      (walk 𝓤 H A W at-mem run (κs .0) (qs .0) (a .0 .ptr .0) (a .0 .ptr .1) (a .0 .name) (a .0 .now) (a .1 .0) (a .1 .1 .0) (a .1 .1 .1 .0) C Λ fm known-written known-record known-refusal))
+      (walk 𝓤 H A W at-mem run (κs .0) (qs .0) (a .0 .ptr .0) (a .0 .ptr .1) (a .0 .name) (a .0 .now) (a .1 .0) (a .1 .1 .0)
+      (a .1 .1 .1 .0) C Λ fm known-written known-record known-refusal))
 
   goes : AllGo 𝓤 H A W 1 (write-in.signature .params) (write-in.ended .kept) stayed
   goes = (
@@ -218,5 +247,7 @@ write-in-spec 𝓤 H 𝓜 𝓖 𝓡 =
     (tables 𝓤 H 𝓜 𝓡 code.env .C) (tables 𝓤 H 𝓜 𝓡 code.env .Λ) #entry·write-in code.function (code.unfolded 𝓤 H 𝓜 𝓡)
     (write-in-meets 𝓤 H (𝓖 .A) (givenOf 𝓤 H 𝓜 𝓖) (𝓜 .mem) (𝓡 .run) (tablesOf 𝓤 H 𝓜 (tables 𝓤 H 𝓜 𝓡 code.env))
     (cited 𝓤 H (Wrote 𝓤 H (𝓖 .A) (𝓜 .mem) (𝓡 .run)) 𝓜 𝓡 code.env #entry·written written-def.routine code.calls-entry·written (written-thm.met 𝓤 H 𝓜 𝓖 𝓡))
-    (cited 𝓤 H (RecordOf 𝓤 H (𝓖 .A) (𝓜 .mem) (𝓡 .run)) 𝓜 𝓡 code.env #entry·record-of record-of-def.routine code.calls-entry·record-of (record-of-thm.met 𝓤 H 𝓜 𝓖 𝓡))
-    (cited 𝓤 H (RefusalOf 𝓤 H (𝓖 .A) (𝓜 .mem) (𝓡 .run)) 𝓜 𝓡 code.env #entry·refusal-of refusal-of-def.routine code.calls-entry·refusal-of (refusal-of-thm.met 𝓤 H 𝓜 𝓖 𝓡)))
+    (cited 𝓤 H (RecordOf 𝓤 H (𝓖 .A) (𝓜 .mem) (𝓡 .run)) 𝓜 𝓡 code.env #entry·record-of record-of-def.routine code.calls-entry·record-of
+    (record-of-thm.met 𝓤 H 𝓜 𝓖 𝓡))
+    (cited 𝓤 H (RefusalOf 𝓤 H (𝓖 .A) (𝓜 .mem) (𝓡 .run)) 𝓜 𝓡 code.env #entry·refusal-of refusal-of-def.routine code.calls-entry·refusal-of
+    (refusal-of-thm.met 𝓤 H 𝓜 𝓖 𝓡)))

@@ -26,7 +26,8 @@ left-by : (c : tie.Else1) → let a = c .before .before .args in
 unfolding settledBy
 left-by c =
     let start = c .before .before in
-    choose-true _ _ (fine c) ∙ ap (settledBy (start .args .w)) (sym (start .pre .0)) ∙ ap (λ t. choose t (started (start .args .w .length) (start .args .next)) (start .args .next)) (sym (start .pre .1))
+    choose-true _ _ (fine c) ∙ ap (settledBy (start .args .w)) (sym (start .pre .0))
+    ∙ ap (λ t. choose t (started (start .args .w .length) (start .args .next)) (start .args .next)) (sym (start .pre .1))
 
 accepts-requires : tie.Need-accepts-requires
 accepts-requires c κs = search needs
@@ -37,7 +38,8 @@ returns c =
     let start = c .before .before in
     let w = start .args .w in
     let self = start .args .self in
-    let kept : self ≡ choose (isAccepted (writeRefusal w self)) (settledBy w (stored w self)) self = simp (sym (told (c .before)) ∙ not-true _ (c .if1 .taken)) in
+    let kept : self ≡ choose (isAccepted (writeRefusal w self)) (settledBy w (stored w self)) self =
+    simp (sym (told (c .before)) ∙ not-true _ (c .if1 .taken)) in
     λ i. record { refusal = start .pre .2 i; coprocessor = kept i }
 
 cast-start : tie.Need-cast-start

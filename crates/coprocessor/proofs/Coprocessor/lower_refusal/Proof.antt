@@ -61,18 +61,29 @@ draws-requires c κs = search needs
 
 returns-4 : tie.Need-returns-4
 unfolding lowerRefusal
-returns-4 c = simp (place (c .before .before .before .before .before .before), idle (c .before .before .before .before), known (c .before .before), sym (no-function (c .before)) ∙ c .if4 .taken)
+returns-4 c = simp (
+  place (c .before .before .before .before .before .before),
+  idle (c .before .before .before .before),
+  known (c .before .before),
+  sym (no-function (c .before)) ∙ c .if4 .taken,
+)
 
 -- whether the write starts a drawing, where none of 1 to 4 came
 begins : (c : tie.Else4) → let a = c .before .before .before .before .before .before .before .before .before .args in
     a .starts ≡ startsBy (a .w) (stored (a .w) (a .self))
-begins c = let start = c .before .before .before .before .before .before .before .before .before in start .pre .1 ∙ ap (startsBy (start .args .w)) (start .pre .0)
+begins c = let start = c .before .before .before .before .before .before .before .before .before in start .pre .1
+    ∙ ap (startsBy (start .args .w)) (start .pre .0)
 
 -- and the refusal is that of the start rules
 then-rules : (c : tie.Else4) → let a = c .before .before .before .before .before .before .before .before .before .args in
     lowerRefusal (a .w) (a .self) ≡ startedRefusal (a .w) (stored (a .w) (a .self))
 unfolding lowerRefusal
-then-rules c = simp (place (c .before .before .before .before .before .before), idle (c .before .before .before .before), known (c .before .before), sym (no-function (c .before)) ∙ c .if4 .left)
+then-rules c = simp (
+  place (c .before .before .before .before .before .before),
+  idle (c .before .before .before .before),
+  known (c .before .before),
+  sym (no-function (c .before)) ∙ c .if4 .left,
+)
 
 start-refusal-requires : tie.Need-start-refusal-requires
 start-refusal-requires c κs = search needs

@@ -27,7 +27,8 @@ returns-3 : tie.Need-returns-3
 unfolding saves saveRefusal saved
 returns-3 c =
     let valid = c .before .before .before .before in
-    simp (eq-eqb _ _ (valid .before .before .if1 .left), sym (valid .before .is-valid .ensures) ∙ not-false _ (valid .if2 .left)) (refl, c .before .before .save-known .ensures)
+    simp (eq-eqb _ _ (valid .before .before .if1 .left), sym (valid .before .is-valid .ensures) ∙ not-false _ (valid .if2 .left))
+    (refl, c .before .before .save-known .ensures)
 
 pub save-spec : {M : Type 1} → statement M
 save-spec =

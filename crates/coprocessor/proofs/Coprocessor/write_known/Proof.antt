@@ -15,7 +15,12 @@ lower-refusal-requires : tie.Need-lower-refusal-requires
 lower-refusal-requires c κs = search needs
 
 answered-requires : tie.Need-answered-requires
-answered-requires c κs = (c .before .before .stored .ensures, c .before .starts .ensures, c .lower-refusal .ensures ∙ sym (write-then10 _ _ ∙ valid-then10 _ _ (c .before .before .before .pre)))
+answered-requires c κs = (
+  c .before .before .stored .ensures,
+  c .before .starts .ensures,
+  c .lower-refusal .ensures
+      ∙ sym (write-then10 _ _ ∙ valid-then10 _ _ (c .before .before .before .pre)),
+)
 
 returns : tie.Need-returns
 returns c = search needs

@@ -26,7 +26,12 @@ unfolding loadsBy
 returns c =
     let start = c .before .before .before .before .before .before in
     rw (← loads-by (start .args .buffer .now), eq-eqb _ _ (start .pre .0), c .is-valid .ensures, c .before .is-marked .ensures)
-    (rw (c .before .before .are-same .ensures, c .before .before .before .counters-of .ensures, c .before .before .before .before .counters-from .ensures, start .pre .1))
+    (rw (
+      c .before .before .are-same .ensures,
+      c .before .before .before .counters-of .ensures,
+      c .before .before .before .before .counters-from .ensures,
+      start .pre .1,
+    ))
 
 pub loads-spec : {M : Type 1} → statement M
 loads-spec =

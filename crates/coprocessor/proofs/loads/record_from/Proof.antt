@@ -26,7 +26,12 @@ unfolding loaded
 returns c =
     let registers = c .before .before .before .before .registers-from .ensures in
     let drawing = c .drawing-of .ensures ∙ (λ i. drawingOf (registers i .figure .operations) (c .before .counters-from .ensures i)) in
-    λ i. record { size = c .before .before .before .size-from .ensures i; maps = c .before .before .maps-from .ensures i; registers = registers i; drawing = drawing i }
+    λ i. record {
+      size = c .before .before .before .size-from .ensures i;
+      maps = c .before .before .maps-from .ensures i;
+      registers = registers i;
+      drawing = drawing i;
+    }
 
 pub record-from-spec : {M : Type 1} → statement M
 record-from-spec =

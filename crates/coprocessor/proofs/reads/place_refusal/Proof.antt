@@ -20,11 +20,19 @@ is-listed-requires c κs = let p = placed-known _ _ (sym (c .before .is-placed .
 
 returns-2 : tie.Need-returns-2
 unfolding placeRefusal
-returns-2 c = simp (sym (c .before .before .before .is-placed .ensures) ∙ not-false _ (c .before .before .if1 .left), sym (c .before .is-listed .ensures) ∙ not-true _ (c .if2 .taken))
+returns-2 c = simp (
+  sym (c .before .before .before .is-placed .ensures) ∙ not-false _ (c .before .before .if1 .left),
+  sym (c .before .is-listed .ensures)
+      ∙ not-true _ (c .if2 .taken),
+)
 
 returns-3 : tie.Need-returns-3
 unfolding placeRefusal
-returns-3 c = simp (sym (c .before .before .before .is-placed .ensures) ∙ not-false _ (c .before .before .if1 .left), sym (c .before .is-listed .ensures) ∙ not-false _ (c .if2 .left))
+returns-3 c = simp (
+  sym (c .before .before .before .is-placed .ensures) ∙ not-false _ (c .before .before .if1 .left),
+  sym (c .before .is-listed .ensures)
+      ∙ not-false _ (c .if2 .left),
+)
 
 pub place-refusal-spec : {M : Type 1} → statement M
 place-refusal-spec =

@@ -33,7 +33,12 @@ returns : tie.Need-returns
 unfolding mapsReduced mapAt
 returns c =
     let second = c .before .before .before .before in
-    rw (c .map-is-reduced4 .ensures, c .before .before .map-is-reduced3 .ensures, second .map-is-reduced2 .ensures, second .before .before .map-is-reduced .ensures)
+    rw (
+      c .map-is-reduced4 .ensures,
+      c .before .before .map-is-reduced3 .ensures,
+      second .map-is-reduced2 .ensures,
+      second .before .before .map-is-reduced .ensures,
+    )
 
 pub maps-are-reduced-spec : {M : Type 1} → statement M
 maps-are-reduced-spec =

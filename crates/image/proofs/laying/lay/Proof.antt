@@ -26,7 +26,13 @@ returns : tie.Need-returns
 returns c =
     let maps = c .before .before .before .before .before .before .before .before .before .before in
     let head = maps .before .before .before .before in
-    rw (c .before .before .lay-upper .ensures, c .before .before .before .before .before .before .lay-lower .ensures, maps .lay-maps .ensures, head .lay-head .ensures, head .before .before .counters-of .ensures)
+    rw (
+      c .before .before .lay-upper .ensures,
+      c .before .before .before .before .before .before .lay-lower .ensures,
+      maps .lay-maps .ensures,
+      head .lay-head .ensures,
+      head .before .before .counters-of .ensures,
+    )
     (lay-fields _ _ _ _ _ (head .before .before .before .before .pre))
 
 pub lay-spec : {M : Type 1} → statement M

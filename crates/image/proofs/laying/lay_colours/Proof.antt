@@ -27,7 +27,13 @@ returns : tie.Need-returns
 unfolding le colourBytes
 returns c =
     let third = c .before .before .before .before .before .before .before .before .before .before in
-    rw (c .before .before .store5 .ensures, c .before .before .before .before .before .before .store4 .ensures, third .store3 .ensures, third .before .before .before .before .store2 .ensures, third .before .before .before .before .before .before .before .before .store .ensures)
+    rw (
+      c .before .before .store5 .ensures,
+      c .before .before .before .before .before .before .store4 .ensures,
+      third .store3 .ensures,
+      third .before .before .before .before .store2 .ensures,
+      third .before .before .before .before .before .before .before .before .store .ensures,
+    )
 
 pub lay-colours-spec : {M : Type 1} → statement M
 lay-colours-spec =

@@ -36,7 +36,12 @@ returns : tie.Need-returns
 unfolding le laid counterFields
 returns c =
     let third = c .before .before .before .before .before .before .before in
-    rw (c .before .before .store4 .ensures, third .store3 .ensures, third .before .before .before .before .before .store2 .ensures, third .before .before .before .before .before .before .before .before .before .before .store .ensures)
+    rw (
+      c .before .before .store4 .ensures,
+      third .store3 .ensures,
+      third .before .before .before .before .before .store2 .ensures,
+      third .before .before .before .before .before .before .before .before .before .before .store .ensures,
+    )
 
 pub lay-counters-spec : {M : Type 1} → statement M
 lay-counters-spec =

@@ -27,7 +27,13 @@ returns : tie.Need-returns
 unfolding le laid counterFields headFields
 returns c =
     let third = c .before .before .before .before .before .before .before .before .before .before in
-    rw (c .before .before .store4 .ensures, c .before .before .before .before .before .before .lay-counters .ensures, third .store3 .ensures, third .before .before .before .before .store2 .ensures, third .before .before .before .before .before .before .before .before .store .ensures)
+    rw (
+      c .before .before .store4 .ensures,
+      c .before .before .before .before .before .before .lay-counters .ensures,
+      third .store3 .ensures,
+      third .before .before .before .before .store2 .ensures,
+      third .before .before .before .before .before .before .before .before .store .ensures,
+    )
 
 pub lay-head-spec : {M : Type 1} → statement M
 lay-head-spec =

@@ -27,7 +27,13 @@ returns : tie.Need-returns
 unfolding le termBytes mixBytes colourBytes pointBytes lowBytes
 returns c =
     let third = c .before .before .before .before .before .before .before .before .before .before in
-    rw (c .before .before .lay-point .ensures, c .before .before .before .before .before .before .lay-colours .ensures, third .lay-mixes .ensures, third .before .before .before .before .store .ensures, third .before .before .before .before .before .before .before .before .lay-terms .ensures)
+    rw (
+      c .before .before .lay-point .ensures,
+      c .before .before .before .before .before .before .lay-colours .ensures,
+      third .lay-mixes .ensures,
+      third .before .before .before .before .store .ensures,
+      third .before .before .before .before .before .before .before .before .lay-terms .ensures,
+    )
 
 pub lay-lower-spec : {M : Type 1} → statement M
 lay-lower-spec =

@@ -40,7 +40,12 @@ same-length c = search needs
 returns : tie.Need-returns
 returns c =
     let third = c .before .before .before .before .before .before .before in
-    rw (c .before .before .store4 .ensures, third .store3 .ensures, third .before .before .before .before .before .store2 .ensures, third .before .before .before .before .before .before .before .before .before .before .store .ensures) (lay-map _ _ _)
+    rw (
+      c .before .before .store4 .ensures,
+      third .store3 .ensures,
+      third .before .before .before .before .before .store2 .ensures,
+      third .before .before .before .before .before .before .before .before .before .before .store .ensures,
+    ) (lay-map _ _ _)
 
 pub lay-map-spec : {M : Type 1} → statement M
 lay-map-spec =

@@ -36,7 +36,12 @@ returns : tie.Need-returns
 unfolding mapAt
 returns c =
     let third = c .before .before .before .before .before .before .before in
-    rw (c .before .before .lay-map4 .ensures, third .lay-map3 .ensures, third .before .before .before .before .before .lay-map2 .ensures, third .before .before .before .before .before .before .before .before .before .before .lay-map .ensures) (lay-maps _ _)
+    rw (
+      c .before .before .lay-map4 .ensures,
+      third .lay-map3 .ensures,
+      third .before .before .before .before .before .lay-map2 .ensures,
+      third .before .before .before .before .before .before .before .before .before .before .lay-map .ensures,
+    ) (lay-maps _ _)
 
 pub lay-maps-spec : {M : Type 1} → statement M
 lay-maps-spec =

@@ -34,7 +34,14 @@ returns c =
     let second = c .before .before .before .before .before .before .before .before in
     let first = second .before .before .before .before .before .before in
     let terms = first .before .before .before .before .before .args .terms in
-    rw (c .before .before .store3 .ensures, c .before .before .before .word3 .ensures, second .store2 .ensures, second .before .word2 .ensures, first .store .ensures, first .before .word .ensures)
+    rw (
+      c .before .before .store3 .ensures,
+      c .before .before .before .word3 .ensures,
+      second .store2 .ensures,
+      second .before .word2 .ensures,
+      first .store .ensures,
+      first .before .word .ensures,
+    )
     (rw (toZ-ofZ w32 (terms .e) (search needs), toZ-ofZ w32 (terms .k1) (search needs), toZ-ofZ w32 (terms .k2) (search needs)))
 
 pub lay-terms-spec : {M : Type 1} → statement M

@@ -27,7 +27,13 @@ returns : tie.Need-returns
 unfolding le pointBytes spotBytes highBytes
 returns c =
     let third = c .before .before .before .before .before .before .before .before .before .before in
-    rw (c .before .before .store .ensures, c .before .before .before .before .before .before .lay-spot .ensures, third .lay-point3 .ensures, third .before .before .before .before .lay-point2 .ensures, third .before .before .before .before .before .before .before .before .lay-point .ensures)
+    rw (
+      c .before .before .store .ensures,
+      c .before .before .before .before .before .before .lay-spot .ensures,
+      third .lay-point3 .ensures,
+      third .before .before .before .before .lay-point2 .ensures,
+      third .before .before .before .before .before .before .before .before .lay-point .ensures,
+    )
 
 pub lay-upper-spec : {M : Type 1} → statement M
 lay-upper-spec =

@@ -20,7 +20,13 @@ returns : tie.Need-returns
 unfolding countersFrom
 returns c =
     let done = c .before .before in
-    λ i. record { state = done .before .byte-at .ensures i; done = done .half-at .ensures i; passed = c .before .half-at2 .ensures i; count = c .byte-at2 .ensures i }
+    λ i. record {
+      state = done .before .byte-at .ensures i;
+      done = done .half-at .ensures i;
+      passed = c .before .half-at2 .ensures i;
+      count =
+          c .byte-at2 .ensures i;
+    }
 
 pub counters-from-spec : {M : Type 1} → statement M
 counters-from-spec =

@@ -27,7 +27,13 @@ byte-at-requires c κs = search needs
 returns : tie.Need-returns
 returns c =
     let width = c .before .before in
-    λ i. record { base = width .before .word-at .ensures i; width = width .half-at .ensures i; height = c .before .half-at2 .ensures i; format = c .byte-at .ensures i }
+    λ i. record {
+      base = width .before .word-at .ensures i;
+      width = width .half-at .ensures i;
+      height = c .before .half-at2 .ensures i;
+      format =
+          c .byte-at .ensures i;
+    }
 
 pub map-from-spec : {M : Type 1} → statement M
 map-from-spec =

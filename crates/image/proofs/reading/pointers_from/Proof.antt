@@ -15,7 +15,12 @@ spot-from-requires c κs = search needs
 
 returns : tie.Need-returns
 unfolding pointFrom pointersFrom
-returns c = λ i. record { source = c .before .before .point-from .ensures i; pattern = c .before .point-from2 .ensures i; destination = c .spot-from .ensures i }
+returns c = λ i. record {
+  source = c .before .before .point-from .ensures i;
+  pattern = c .before .point-from2 .ensures i;
+  destination =
+      c .spot-from .ensures i;
+}
 
 pub pointers-from-spec : {M : Type 1} → statement M
 pointers-from-spec =

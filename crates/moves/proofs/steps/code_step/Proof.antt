@@ -19,7 +19,9 @@ turn-of-requires-2 : tie.Need-turn-of-requires-2
 turn-of-requires-2 c κs = search needs
 
 returns : tie.Need-returns
-returns c = rw (c .turn-of2 .ensures, c .before .turn-of .ensures) (sym (code-step (c .before .before .before .args .code) _ (sym (c .before .before .direction-of .ensures)) (omega (arith, c .before .before .direction-of .ensures))))
+returns c = rw (c .turn-of2 .ensures, c .before .turn-of .ensures)
+    (sym (code-step (c .before .before .before .args .code) _ (sym (c .before .before .direction-of .ensures))
+    (omega (arith, c .before .before .direction-of .ensures))))
 
 pub code-step-spec : {M : Type 1} → statement M
 code-step-spec = tie.close (tie.spec direction-of-requires add-turn-of turn-of-requires turn-of-requires-2 returns)

@@ -22,7 +22,12 @@ returns c = let test = c .before .before .before in
 
 returns-2 : tie.Need-returns-2
 unfolding wentBy codesMoved
-returns-2 c = rw (← c .before .before .before .code-at .ensures, ← c .before .before .steps-of .ensures, le-ltb _ _ (c .before .if1 .left), c .pass-code .ensures)
+returns-2 c = rw (
+  ← c .before .before .before .code-at .ensures,
+  ← c .before .before .steps-of .ensures,
+  le-ltb _ _ (c .before .if1 .left),
+  c .pass-code .ensures,
+)
 
 pub code-way-spec : {M : Type 1} → statement M
 code-way-spec =

@@ -21,11 +21,13 @@ stops-requires c κs = search needs
 
 returns : tie.Need-returns
 unfolding codePassed
-returns c = let at = c .before .before in simp (lt-ltb _ _ (at .before .if1 .taken), sym (c .before .stops .ensures ∙ ap stops (at .code-at .ensures)) ∙ c .if2 .taken)
+returns c = let at = c .before .before in
+    simp (lt-ltb _ _ (at .before .if1 .taken), sym (c .before .stops .ensures ∙ ap stops (at .code-at .ensures)) ∙ c .if2 .taken)
 
 returns-2 : tie.Need-returns-2
 unfolding codePassed
-returns-2 c = let at = c .before .before in simp (lt-ltb _ _ (at .before .if1 .taken), sym (c .before .stops .ensures ∙ ap stops (at .code-at .ensures)) ∙ c .if2 .left)
+returns-2 c = let at = c .before .before in
+    simp (lt-ltb _ _ (at .before .if1 .taken), sym (c .before .stops .ensures ∙ ap stops (at .code-at .ensures)) ∙ c .if2 .left)
 
 returns-3 : tie.Need-returns-3
 unfolding codePassed

@@ -20,7 +20,12 @@ latch-spot-requires c κs = search needs
 
 returns : tie.Need-returns
 unfolding pointersLatched
-returns c = λ i. record { source = c .before .before .latch-point .ensures i; pattern = c .before .latch-point2 .ensures i; destination = c .latch-spot .ensures i }
+returns c = λ i. record {
+  source = c .before .before .latch-point .ensures i;
+  pattern = c .before .latch-point2 .ensures i;
+  destination =
+      c .latch-spot .ensures i;
+}
 
 returns-2 : tie.Need-returns-2
 returns-2 c = sym (pointers-untouched _ _ (sym (c .before .touches .ensures) ∙ c .if1 .left))

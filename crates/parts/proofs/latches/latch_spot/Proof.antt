@@ -18,8 +18,10 @@ returns : tie.Need-returns
 unfolding spotLatched
 returns c =
     let at = c .before .before .before .before .args in
-    let x = field-answer w16 (takenOnto (coordinate 0x78) (at .w)) (at .spot .x) _ (search needs) (record { sfits = c .before .before .take-destination .ok }) (c .before .before .take-destination .ensures) in
-    let y = field-answer w16 (takenOnto (coordinate 0x7A) (at .w)) (at .spot .y) _ (search needs) (record { sfits = c .take-destination2 .ok }) (c .take-destination2 .ensures) in
+    let x = field-answer w16 (takenOnto (coordinate 0x78) (at .w)) (at .spot .x) _ (search needs)
+    (record { sfits = c .before .before .take-destination .ok }) (c .before .before .take-destination .ensures) in
+    let y = field-answer w16 (takenOnto (coordinate 0x7A) (at .w)) (at .spot .y) _ (search needs) (record { sfits = c .take-destination2 .ok })
+    (c .take-destination2 .ensures) in
     λ i. record { x = x i; y = y i }
 
 pub latch-spot-spec : {M : Type 1} → statement M

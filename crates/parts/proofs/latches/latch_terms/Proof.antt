@@ -28,9 +28,12 @@ returns c =
     let first = c .before .before .before .before in
     let second = c .before .before in
     let a = c .before .before .before .before .before .before .before .before .args in
-    let e = field-answer w32 (takenOnto errorTerm (a .w)) (a .terms .e) _ (search needs) (record { sfits = first .take-term .ok }) (first .take-term .ensures) in
-    let k1 = field-answer w32 (takenOnto firstConstant (a .w)) (a .terms .k1) _ (search needs) (record { sfits = second .take-term2 .ok }) (second .take-term2 .ensures) in
-    let k2 = field-answer w32 (takenOnto secondConstant (a .w)) (a .terms .k2) _ (search needs) (record { sfits = c .take-term3 .ok }) (c .take-term3 .ensures) in
+    let e = field-answer w32 (takenOnto errorTerm (a .w)) (a .terms .e) _ (search needs) (record { sfits = first .take-term .ok })
+    (first .take-term .ensures) in
+    let k1 = field-answer w32 (takenOnto firstConstant (a .w)) (a .terms .k1) _ (search needs) (record { sfits = second .take-term2 .ok })
+    (second .take-term2 .ensures) in
+    let k2 = field-answer w32 (takenOnto secondConstant (a .w)) (a .terms .k2) _ (search needs) (record { sfits = c .take-term3 .ok })
+    (c .take-term3 .ensures) in
     λ i. record { e = e i; k1 = k1 i; k2 = k2 i }
 
 returns-2 : tie.Need-returns-2

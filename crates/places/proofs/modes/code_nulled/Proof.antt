@@ -23,7 +23,8 @@ returns-2 c = λ e count i same. rw (← same, ← c .before .steps-of .ensures)
 
 returns-3 : tie.Need-returns-3
 unfolding nulledBy isFirst isLast onBoundary
-returns-3 c = λ e count i same. rw (← same, ← c .before .before .steps-of .ensures) (ap not (c .code-bounds .ensures) ∙ sym (boundary-null _ _ _ _ (c .before .match .keys3)))
+returns-3 c = λ e count i same. rw (← same, ← c .before .before .steps-of .ensures)
+    (ap not (c .code-bounds .ensures) ∙ sym (boundary-null _ _ _ _ (c .before .match .keys3)))
 
 returns-4 : tie.Need-returns-4
 unfolding nulledBy

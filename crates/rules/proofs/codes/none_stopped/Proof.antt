@@ -28,11 +28,13 @@ stops-requires c κs = search needs
 
 -- what the test says of the code
 asked : (c : tie.After-stops Inv-loop μ-loop)
-    → c .stops .result ≡ stops (codeAt (c .before .before .before .before .args .steps) (c .before .before .before .before .args .count) (c .before .before .before .loop .i))
+    → c .stops .result ≡ stops (codeAt (c .before .before .before .before .args .steps) (c .before .before .before .before .args .count)
+    (c .before .before .before .loop .i))
 asked c = c .stops .ensures ∙ ap stops (c .before .code-at .ensures)
 
 returns : tie.Need-returns Inv-loop μ-loop
-returns c = sym (code-stopping _ _ (c .before .before .before .before .loop .i) _ (c .before .before .before .loop-test .taken) (sym (asked (c .before)) ∙ c .if1 .taken))
+returns c = sym (code-stopping _ _ (c .before .before .before .before .loop .i) _ (c .before .before .before .loop-test .taken)
+    (sym (asked (c .before)) ∙ c .if1 .taken))
 
 add-i : tie.Need-add-i Inv-loop μ-loop
 add-i c = omega arith

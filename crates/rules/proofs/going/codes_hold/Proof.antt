@@ -27,7 +27,14 @@ returns : tie.Need-returns
 unfolding countersHold noneStopped
 returns c =
     let code = c .before .before .before .before .before .code-at .ensures in
-    rw (c .steps-of .ensures, c .before .stops .ensures, c .before .before .none-stopped .ensures, c .before .before .before .is-count .ensures, c .before .before .before .before .is-codes .ensures, code)
+    rw (
+      c .steps-of .ensures,
+      c .before .stops .ensures,
+      c .before .before .none-stopped .ensures,
+      c .before .before .before .is-count .ensures,
+      c .before .before .before .before .is-codes .ensures,
+      code,
+    )
 
 pub codes-hold-spec : {M : Type 1} → statement M
 codes-hold-spec =
