@@ -37,7 +37,7 @@ pub struct Course {
 
 // How the pen comes to the next position: along a step, over a row's end, or not at all; and the drawing in hand there.
 // Along a step, source and pattern go by `from` and the destination by `to`.
-pub enum Way {
+pub(crate) enum Way {
     Along {
         from_x: Turn,
         from_y: Turn,

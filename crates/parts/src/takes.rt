@@ -23,7 +23,7 @@ pub fn touches(bytes: u32, at: u8, w: Write) -> bool
 }
 
 // A register of one byte, after the write.
-pub fn take_byte(stored: u8, at: u8, w: Write) -> u8
+pub(crate) fn take_byte(stored: u8, at: u8, w: Write) -> u8
     ensures { λ r. ⌜ r ≡ taken (whole 1 at) w stored ⌝ }
 {
     if touches(1, at, w) {
@@ -34,7 +34,7 @@ pub fn take_byte(stored: u8, at: u8, w: Write) -> u8
 }
 
 // A register of one byte that is reduced to so many bits.
-pub fn take_bits(bits: u32, stored: u8, at: u8, w: Write) -> u8
+pub(crate) fn take_bits(bits: u32, stored: u8, at: u8, w: Write) -> u8
     requires { ⌜ bits ≤ 8 ⌝ }
     ensures { λ r. ⌜ r ≡ taken (lowBits bits 1 at) w stored ⌝ }
 {
@@ -46,7 +46,7 @@ pub fn take_bits(bits: u32, stored: u8, at: u8, w: Write) -> u8
 }
 
 // A register of two bytes that is reduced to 12 bits.
-pub fn take_twelve_bits(stored: u16, at: u8, w: Write) -> u16
+pub(crate) fn take_twelve_bits(stored: u16, at: u8, w: Write) -> u16
     ensures { λ r. ⌜ r ≡ taken (twelve at) w stored ⌝ }
 {
     if touches(2, at, w) {
@@ -57,7 +57,7 @@ pub fn take_twelve_bits(stored: u16, at: u8, w: Write) -> u16
 }
 
 // A register of four bytes.
-pub fn take_word(stored: u32, at: u8, w: Write) -> u32
+pub(crate) fn take_word(stored: u32, at: u8, w: Write) -> u32
     ensures { λ r. ⌜ r ≡ taken (whole 4 at) w stored ⌝ }
 {
     if touches(4, at, w) {
@@ -68,7 +68,7 @@ pub fn take_word(stored: u32, at: u8, w: Write) -> u32
 }
 
 // E, K1 or K2: a register of four bytes that is reduced to -8,192 to 8,191.
-pub fn take_term(stored: i32, at: u8, w: Write) -> i32
+pub(crate) fn take_term(stored: i32, at: u8, w: Write) -> i32
     ensures { λ r. ⌜ r ≡ takenOnto (term at) w stored ⌝ }
 {
     if touches(4, at, w) {
@@ -79,7 +79,7 @@ pub fn take_term(stored: i32, at: u8, w: Write) -> i32
 }
 
 // A destination pointer: a register of two bytes that is reduced to -2,048 to 6,143.
-pub fn take_destination(stored: i16, at: u8, w: Write) -> i16
+pub(crate) fn take_destination(stored: i16, at: u8, w: Write) -> i16
     ensures { λ r. ⌜ r ≡ takenOnto (coordinate at) w stored ⌝ }
 {
     if touches(2, at, w) {

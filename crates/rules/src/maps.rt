@@ -12,21 +12,21 @@ pub fn map_at(maps: [Map; 4], field: u32) -> Map
 }
 
 // Whether the format is one of the four pixel sizes in Intel order.
-pub fn format_holds(map: Map) -> bool
+pub(crate) fn format_holds(map: Map) -> bool
     ensures { λ r. ⌜ r ≡ formatHolds map ⌝ }
 {
     map.format % 16 < 4
 }
 
 // Whether the map's pixels have one bit.
-pub fn is_one_bit(map: Map) -> bool
+pub(crate) fn is_one_bit(map: Map) -> bool
     ensures { λ r. ⌜ r ≡ isOneBit map ⌝ }
 {
     pixels::bits_of(map.format) == 1
 }
 
 // Whether the map ends within a memory of `size` bytes.
-pub fn end_holds(size: u32, map: Map) -> bool
+pub(crate) fn end_holds(size: u32, map: Map) -> bool
     ensures { λ r. ⌜ r ≡ endHolds size map ⌝ }
 {
     map.base as u64 + pixels::needed(map) <= size as u64

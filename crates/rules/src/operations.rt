@@ -53,7 +53,7 @@ pub fn mask_mode(operations: u32) -> u32
 }
 
 // Bits 5-4: 0 for all pixels, 1 for all but the first, 2 for all but the last, 3 for an area boundary.
-pub fn drawing_mode(operations: u32) -> u32
+pub(crate) fn drawing_mode(operations: u32) -> u32
     ensures { λ r. ⌜ r ≡ defined.drawingMode operations ⌝ }
 {
     (operations >> 4) % 4
@@ -125,7 +125,7 @@ pub fn draws(operations: u32) -> bool
 }
 
 // Whether a colour comes from the source map.
-pub fn source_is_colour(operations: u32) -> bool
+pub(crate) fn source_is_colour(operations: u32) -> bool
     ensures { λ r. ⌜ r ≡ defined.sourceIsColour operations ⌝ }
 {
     (foreground_source(operations) == 2) | (background_source(operations) == 2)
@@ -146,7 +146,7 @@ pub fn uses_pattern(operations: u32) -> bool
 }
 
 // Whether the mask map is used; its boundary alone uses no pixel of it.
-pub fn uses_mask(operations: u32) -> bool
+pub(crate) fn uses_mask(operations: u32) -> bool
     ensures { λ r. ⌜ r ≡ defined.usesMask operations ⌝ }
 {
     mask_mode(operations) == 2

@@ -5,19 +5,13 @@ use Rattle.bench.specs.Inner.{sessionOf, byteGathered, byteTaken}
 use Rattle.bench.proofs.hear_byte.Statement.{statement}
 use Rattle.bench.proofs.hear_byte.Tie as tie
 
-end-line-requires : tie.Need-end-line-requires
-end-line-requires c κs = search needs
-
 returns : tie.Need-returns
 unfolding byteTaken
 returns c = rw (eq-eqb _ _ (c .before .before .before .if1 .taken)) (c .end-line .ensures)
-
-gather-requires : tie.Need-gather-requires
-gather-requires c κs = search needs
 
 returns-2 : tie.Need-returns-2
 unfolding sessionOf byteGathered byteTaken
 returns-2 c = rw (ne-eqb _ _ (c .before .before .before .if1 .left)) (cc)
 
 pub hear-byte-spec : {M : Type 1} → statement M
-hear-byte-spec = tie.close (tie.spec end-line-requires returns gather-requires returns-2)
+hear-byte-spec = tie.close (tie.spec (λ c κs. search needs) returns (λ c κs. search needs) returns-2)

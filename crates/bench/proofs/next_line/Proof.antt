@@ -5,9 +5,6 @@ use Rattle.bench.specs.Printed.{lineAfter}
 use Rattle.bench.proofs.next_line.Statement.{statement}
 use Rattle.bench.proofs.next_line.Tie as tie
 
-add-result : tie.Need-add-result
-add-result c = search needs
-
 returns : tie.Need-returns
 unfolding lineAfter
 returns c = rw (lt-ltb _ _ (c .if1 .taken))
@@ -17,4 +14,4 @@ unfolding lineAfter
 returns-2 c = rw (le-ltb _ _ (c .if1 .left))
 
 pub next-line-spec : {M : Type 1} → statement M
-next-line-spec = tie.close (tie.spec add-result returns returns-2)
+next-line-spec = tie.close (tie.spec (λ c. search needs) returns returns-2)

@@ -4,21 +4,9 @@ use borrow.Author.Needs.{needs}
 use Rattle.board.proofs.answer.Statement.{statement}
 use Rattle.board.proofs.answer.Tie as tie
 
-number-requires : tie.Need-number-requires
-number-requires c κs = search needs
-
-cast-result : tie.Need-cast-result
-cast-result c = search needs
-
-mul-result : tie.Need-mul-result
-mul-result c = search needs
-
-add-result : tie.Need-add-result
-add-result c = search needs
-
 returns : tie.Need-returns
 unfolding callAnswer
 returns c = rw (c .number .ensures)
 
 pub answer-spec : {M : Type 1} → statement M
-answer-spec = tie.close (tie.spec number-requires cast-result mul-result add-result returns)
+answer-spec = tie.close (tie.spec (λ c κs. search needs) (λ c. search needs) (λ c. search needs) (λ c. search needs) returns)

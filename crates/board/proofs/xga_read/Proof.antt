@@ -25,15 +25,6 @@ fine c = sym (opened (c .before .before)) ∙ not-false _ (c .before .if1 .left)
 begun : (c : tie.After-state) → c .before .before .before .unpack .result .coprocessor ≡ loaded (c .before .before .before .before .before .args .image .now)
 begun c = ap (λ (a : Written). a .coprocessor) (c .before .before .before .unpack .ensures) ∙ open-record _ (fine c)
 
-unpack-requires : tie.Need-unpack-requires
-unpack-requires c κs = search needs
-
-accepts-requires : tie.Need-accepts-requires
-accepts-requires c κs = search needs
-
-answer-requires : tie.Need-answer-requires
-answer-requires c κs = search needs
-
 returns : tie.Need-returns
 unfolding readNumber callAnswer
 returns c =
@@ -43,9 +34,6 @@ returns c =
 
 read-known-requires : tie.Need-read-known-requires
 read-known-requires c κs = rw (begun c) (loaded-valid _ (fine c))
-
-answer-requires-2 : tie.Need-answer-requires-2
-answer-requires-2 c κs = search needs
 
 returns-2 : tie.Need-returns-2
 unfolding readNumber
@@ -58,10 +46,10 @@ pub xga-read-spec : {M : Type 1} → statement M
 xga-read-spec =
     tie.close
     (tie.spec
-    unpack-requires
-    accepts-requires
-    answer-requires
+    (λ c κs. search needs)
+    (λ c κs. search needs)
+    (λ c κs. search needs)
     returns
     read-known-requires
-    answer-requires-2
+    (λ c κs. search needs)
     returns-2)

@@ -27,18 +27,6 @@ begun : (c : tie.After-state) → c .before .before .before .unpack .result .cop
     ≡ loaded (c .before .before .before .before .before .before .before .args .image .now)
 begun c = ap (λ (a : Written). a .coprocessor) (c .before .before .before .unpack .ensures) ∙ open-record _ (fine c)
 
-unpack-requires : tie.Need-unpack-requires
-unpack-requires c κs = search needs
-
-accepts-requires : tie.Need-accepts-requires
-accepts-requires c κs = search needs
-
-answer-requires : tie.Need-answer-requires
-answer-requires c κs = search needs
-
-same-length : tie.Need-same-length
-same-length c = search needs
-
 returns : tie.Need-returns
 unfolding runNumber runImage runBytes callAnswer
 returns c =
@@ -51,15 +39,6 @@ run-known-requires c κs = rw (begun (c .before)) (loaded-valid _ (fine (c .befo
 
 save-known-requires : tie.Need-save-known-requires
 save-known-requires c κs = loads-length _ (fine (c .before .before .before .before .before .before))
-
-answer-requires-2 : tie.Need-answer-requires-2
-answer-requires-2 c κs = search needs
-
-same-length-2 : tie.Need-same-length-2
-same-length-2 c = search needs
-
-same-length-3 : tie.Need-same-length-3
-same-length-3 c = search needs
 
 returns-2 : tie.Need-returns-2
 unfolding runNumber runImage runBytes
@@ -80,14 +59,14 @@ pub xga-run-spec : {M : Type 1} → statement M
 xga-run-spec =
     tie.close
     (tie.spec
-    unpack-requires
-    accepts-requires
-    answer-requires
-    same-length
+    (λ c κs. search needs)
+    (λ c κs. search needs)
+    (λ c κs. search needs)
+    (λ c. search needs)
     returns
     run-known-requires
     save-known-requires
-    answer-requires-2
-    same-length-2
-    same-length-3
+    (λ c κs. search needs)
+    (λ c. search needs)
+    (λ c. search needs)
     returns-2)

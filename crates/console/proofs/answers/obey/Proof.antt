@@ -5,30 +5,12 @@ use Rattle.console.specs.Answers.{toldOf, memoryAfter}
 use Rattle.console.proofs.answers.obey.Statement.{statement}
 use Rattle.console.proofs.answers.obey.Tie as tie
 
-enum-known-command : tie.Need-enum-known-command
-enum-known-command c = search needs
-
-obey-write-requires : tie.Need-obey-write-requires
-obey-write-requires c κs = search needs
-
-enum-known-command-2 : tie.Need-enum-known-command-2
-enum-known-command-2 c = search needs
-
-obey-run-requires : tie.Need-obey-run-requires
-obey-run-requires c κs = search needs
-
 enum-told : tie.Need-enum-told
 enum-told c = search needs
-
-enum-told-2 : tie.Need-enum-told-2
-enum-told-2 c = search needs
 
 returns : tie.Need-returns
 unfolding toldOf memoryAfter
 returns c = rw (c .before .before .command .given .1) (c .obey-write .ensures, refl)
-
-same-length : tie.Need-same-length
-same-length c = search needs
 
 returns-2 : tie.Need-returns-2
 unfolding toldOf memoryAfter
@@ -46,14 +28,14 @@ pub obey-spec : {M : Type 1} → statement M
 obey-spec =
     tie.close
     (tie.spec
-    enum-known-command
-    obey-write-requires
-    enum-known-command-2
-    obey-run-requires
+    (λ c. search needs)
+    (λ c κs. search needs)
+    (λ c. search needs)
+    (λ c κs. search needs)
     enum-told
-    enum-told-2
+    (λ c. search needs)
     returns
-    same-length
+    (λ c. search needs)
     returns-2
     returns-3
     returns-4)

@@ -6,15 +6,6 @@ use Rattle.console.specs.Answers.{outcomeOf, runTold}
 use Rattle.console.proofs.answers.obey_run.Statement.{statement}
 use Rattle.console.proofs.answers.obey_run.Tie as tie
 
-run-requires : tie.Need-run-requires
-run-requires c κs = search needs
-
-outcome-of-requires : tie.Need-outcome-of-requires
-outcome-of-requires c κs = search needs
-
-same-length : tie.Need-same-length
-same-length c = search needs
-
 returns : tie.Need-returns
 unfolding runTold
 returns c =
@@ -23,4 +14,4 @@ returns c =
     (λ i. record { answer = answer i; coprocessor = e .0 i .coprocessor }, e .1)
 
 pub obey-run-spec : {M : Type 1} → statement M
-obey-run-spec = tie.close (tie.spec run-requires outcome-of-requires same-length returns)
+obey-run-spec = tie.close (tie.spec (λ c κs. search needs) (λ c κs. search needs) (λ c. search needs) returns)

@@ -6,12 +6,6 @@ use Rattle.console.specs.Answers.{outcomeOf, writeTold}
 use Rattle.console.proofs.answers.obey_write.Statement.{statement}
 use Rattle.console.proofs.answers.obey_write.Tie as tie
 
-write-own-requires : tie.Need-write-own-requires
-write-own-requires c κs = search needs
-
-outcome-of-requires : tie.Need-outcome-of-requires
-outcome-of-requires c κs = search needs
-
 returns : tie.Need-returns
 unfolding writeTold
 returns c =
@@ -19,4 +13,4 @@ returns c =
     λ i. record { answer = answer i; coprocessor = e i .coprocessor }
 
 pub obey-write-spec : {M : Type 1} → statement M
-obey-write-spec = tie.close (tie.spec write-own-requires outcome-of-requires returns)
+obey-write-spec = tie.close (tie.spec (λ c κs. search needs) (λ c κs. search needs) returns)

@@ -4,12 +4,6 @@ use Rattle.console.specs.Answers.{outcomeOf}
 use Rattle.console.proofs.answers.outcome_of.Statement.{statement}
 use Rattle.console.proofs.answers.outcome_of.Tie as tie
 
-accepts-requires : tie.Need-accepts-requires
-accepts-requires c κs = search needs
-
-number-requires : tie.Need-number-requires
-number-requires c κs = search needs
-
 returns : tie.Need-returns
 unfolding outcomeOf
 returns c = rw (← c .before .accepts .ensures, c .if1 .taken)
@@ -19,4 +13,4 @@ unfolding outcomeOf
 returns-2 c = rw (← c .before .before .accepts .ensures, c .before .if1 .left, c .number .ensures)
 
 pub outcome-of-spec : {M : Type 1} → statement M
-outcome-of-spec = tie.close (tie.spec accepts-requires number-requires returns returns-2)
+outcome-of-spec = tie.close (tie.spec (λ c κs. search needs) (λ c κs. search needs) returns returns-2)

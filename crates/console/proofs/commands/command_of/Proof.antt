@@ -17,32 +17,11 @@ parted : (c : tie.After-is-letter) → let words = lineWords (c .before .next .r
 unfolding commandFrom
 parted c = command-words _ (rw (← c .before .before .before .before .skip .ensures) (pos-of-ne-zero (c .before .before .before .if1 .left))) ∙ cc
 
-skip-requires : tie.Need-skip-requires
-skip-requires c κs = search needs
-
 returns : tie.Need-returns
 returns c = command-none _ (rw (← c .before .skip .ensures) (c .if1 .taken))
 
-word-requires : tie.Need-word-requires
-word-requires c κs = search needs
-
-next-requires : tie.Need-next-requires
-next-requires c κs = search needs
-
-is-letter-requires : tie.Need-is-letter-requires
-is-letter-requires c κs = search needs
-
-write-command-requires : tie.Need-write-command-requires
-write-command-requires c κs = search needs
-
 returns-2 : tie.Need-returns-2
 returns-2 c = c .write-command .ensures ∙ sym (parted (c .before .before) ∙ rw (c .before .if2 .taken))
-
-is-letter-requires-2 : tie.Need-is-letter-requires-2
-is-letter-requires-2 c κs = search needs
-
-run-command-requires : tie.Need-run-command-requires
-run-command-requires c κs = search needs
 
 returns-3 : tie.Need-returns-3
 returns-3 c =
@@ -56,14 +35,14 @@ pub command-of-spec : {M : Type 1} → statement M
 command-of-spec =
     tie.close
     (tie.spec
-    skip-requires
+    (λ c κs. search needs)
     returns
-    word-requires
-    next-requires
-    is-letter-requires
-    write-command-requires
+    (λ c κs. search needs)
+    (λ c κs. search needs)
+    (λ c κs. search needs)
+    (λ c κs. search needs)
     returns-2
-    is-letter-requires-2
-    run-command-requires
+    (λ c κs. search needs)
+    (λ c κs. search needs)
     returns-3
     returns-4)

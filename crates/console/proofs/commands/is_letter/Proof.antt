@@ -8,9 +8,6 @@ use Rattle.console.proofs.commands.is_letter.Tie as tie
 returns : tie.Need-returns
 returns c = letter-long _ _ _ (c .if1 .taken)
 
-shared-slice-read-byte : tie.Need-shared-slice-read-byte
-shared-slice-read-byte c = search needs
-
 returns-2 : tie.Need-returns-2
 returns-2 c = rw (letter-one _ _ _ (c .before .before .if1 .left), eq-eqb _ _ (c .if2 .taken))
 
@@ -18,4 +15,4 @@ returns-3 : tie.Need-returns-3
 returns-3 c = rw (letter-one _ _ _ (c .before .before .if1 .left), ne-eqb _ _ (c .if2 .left))
 
 pub is-letter-spec : {M : Type 1} → statement M
-is-letter-spec = tie.close (tie.spec returns shared-slice-read-byte returns-2 returns-3)
+is-letter-spec = tie.close (tie.spec returns (λ c. search needs) returns-2 returns-3)

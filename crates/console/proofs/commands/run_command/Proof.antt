@@ -8,20 +8,8 @@ use Rattle.console.proofs.CommandLaws.{run-one, run-more}
 use Rattle.console.proofs.commands.run_command.Statement.{statement}
 use Rattle.console.proofs.commands.run_command.Tie as tie
 
-skip-requires : tie.Need-skip-requires
-skip-requires c κs = search needs
-
-next-requires : tie.Need-next-requires
-next-requires c κs = search needs
-
 returns : tie.Need-returns
 returns c = run-more _ (rw (← c .before .before .skip .ensures, ← c .before .next .ensures) (pos-of-ne-zero (c .if1 .taken)))
-
-number-at-requires : tie.Need-number-at-requires
-number-at-requires c κs = search needs
-
-run-of-requires : tie.Need-run-of-requires
-run-of-requires c κs = search needs
 
 returns-2 : tie.Need-returns-2
 returns-2 c = let none : length (nextOf (skipped (c .before .before .before .before .before .before .args .args .now))) ≡ 0 = cc in cc (run-one _ none)
@@ -29,4 +17,4 @@ returns-2 c = let none : length (nextOf (skipped (c .before .before .before .bef
 pub run-command-spec : {M : Type 1} → statement M
 run-command-spec =
     tie.close
-    (tie.spec skip-requires next-requires returns number-at-requires run-of-requires returns-2)
+    (tie.spec (λ c κs. search needs) (λ c κs. search needs) returns (λ c κs. search needs) (λ c κs. search needs) returns-2)

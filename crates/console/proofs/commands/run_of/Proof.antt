@@ -4,9 +4,6 @@ use Rattle.console.specs.Commands.{runOf}
 use Rattle.console.proofs.commands.run_of.Statement.{statement}
 use Rattle.console.proofs.commands.run_of.Tie as tie
 
-enum-known-allowance : tie.Need-enum-known-allowance
-enum-known-allowance c = search needs
-
 enum-told : tie.Need-enum-told
 enum-told c = search needs
 
@@ -19,4 +16,4 @@ unfolding runOf
 returns-2 c = rw (c .enum-told .given .1)
 
 pub run-of-spec : {M : Type 1} → statement M
-run-of-spec = tie.close (tie.spec enum-known-allowance enum-told returns returns-2)
+run-of-spec = tie.close (tie.spec (λ c. search needs) enum-told returns returns-2)

@@ -8,34 +8,10 @@ use Rattle.console.proofs.CommandLaws.{write-three, write-more}
 use Rattle.console.proofs.commands.write_command.Statement.{statement}
 use Rattle.console.proofs.commands.write_command.Tie as tie
 
-skip-requires : tie.Need-skip-requires
-skip-requires c κs = search needs
-
-next-requires : tie.Need-next-requires
-next-requires c κs = search needs
-
-next-requires-2 : tie.Need-next-requires-2
-next-requires-2 c κs = search needs
-
-next-requires-3 : tie.Need-next-requires-3
-next-requires-3 c κs = search needs
-
 returns : tie.Need-returns
 returns c =
     let more = rw (c .before .next3 .ensures, c .before .before .next2 .ensures) at (pos-of-ne-zero (c .if1 .taken)) in
     write-more _ (rw (← c .before .before .before .before .skip .ensures, ← c .before .before .before .next .ensures) more)
-
-number-at-requires : tie.Need-number-at-requires
-number-at-requires c κs = search needs
-
-number-at-requires-2 : tie.Need-number-at-requires-2
-number-at-requires-2 c κs = search needs
-
-number-at-requires-3 : tie.Need-number-at-requires-3
-number-at-requires-3 c κs = search needs
-
-write-of-requires : tie.Need-write-of-requires
-write-of-requires c κs = search needs
 
 returns-2 : tie.Need-returns-2
 returns-2 c =
@@ -46,13 +22,13 @@ pub write-command-spec : {M : Type 1} → statement M
 write-command-spec =
     tie.close
     (tie.spec
-    skip-requires
-    next-requires
-    next-requires-2
-    next-requires-3
+    (λ c κs. search needs)
+    (λ c κs. search needs)
+    (λ c κs. search needs)
+    (λ c κs. search needs)
     returns
-    number-at-requires
-    number-at-requires-2
-    number-at-requires-3
-    write-of-requires
+    (λ c κs. search needs)
+    (λ c κs. search needs)
+    (λ c κs. search needs)
+    (λ c κs. search needs)
     returns-2)

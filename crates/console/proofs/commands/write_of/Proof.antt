@@ -4,23 +4,8 @@ use Rattle.console.specs.Commands.{writeOf}
 use Rattle.console.proofs.commands.write_of.Statement.{statement}
 use Rattle.console.proofs.commands.write_of.Tie as tie
 
-enum-known-offset : tie.Need-enum-known-offset
-enum-known-offset c = search needs
-
-enum-known-length : tie.Need-enum-known-length
-enum-known-length c = search needs
-
-enum-known-value : tie.Need-enum-known-value
-enum-known-value c = search needs
-
 enum-told : tie.Need-enum-told
 enum-told c = search needs
-
-enum-told-2 : tie.Need-enum-told-2
-enum-told-2 c = search needs
-
-enum-told-3 : tie.Need-enum-told-3
-enum-told-3 c = search needs
 
 returns : tie.Need-returns
 unfolding writeOf
@@ -42,12 +27,12 @@ pub write-of-spec : {M : Type 1} → statement M
 write-of-spec =
     tie.close
     (tie.spec
-    enum-known-offset
-    enum-known-length
-    enum-known-value
+    (λ c. search needs)
+    (λ c. search needs)
+    (λ c. search needs)
     enum-told
-    enum-told-2
-    enum-told-3
+    (λ c. search needs)
+    (λ c. search needs)
     returns
     returns-2
     returns-3

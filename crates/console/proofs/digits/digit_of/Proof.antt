@@ -7,21 +7,6 @@ use Rattle.console.specs.Digits.{digitOf}
 use Rattle.console.proofs.digits.digit_of.Statement.{statement}
 use Rattle.console.proofs.digits.digit_of.Tie as tie
 
-cast-result : tie.Need-cast-result
-cast-result c = search needs
-
-sub-result : tie.Need-sub-result
-sub-result c = search needs
-
-cast-result-2 : tie.Need-cast-result-2
-cast-result-2 c = search needs
-
-sub-result-2 : tie.Need-sub-result-2
-sub-result-2 c = search needs
-
-cast-result-3 : tie.Need-cast-result-3
-cast-result-3 c = search needs
-
 returns : tie.Need-returns
 unfolding digitOf
 returns c = simp (le-leb 48 (c .before .before .args .byte) (omega arith), le-leb (c .before .before .args .byte) 57 (omega arith))
@@ -62,11 +47,11 @@ pub digit-of-spec : {M : Type 1} → statement M
 digit-of-spec =
     tie.close
     (tie.spec
-    cast-result
-    sub-result
-    cast-result-2
-    sub-result-2
-    cast-result-3
+    (λ c. search needs)
+    (λ c. search needs)
+    (λ c. search needs)
+    (λ c. search needs)
+    (λ c. search needs)
     returns
     returns-2
     returns-3

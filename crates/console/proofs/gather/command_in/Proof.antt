@@ -10,9 +10,6 @@ use Rattle.console.proofs.gather.command_in.Tie as tie
 slice-aggregate-command-of : tie.Need-slice-aggregate-command-of
 slice-aggregate-command-of c = sym (length-take-le _ _ (c .before .if1 .taken))
 
-command-of-requires : tie.Need-command-of-requires
-command-of-requires c κs = search needs
-
 returns : tie.Need-returns
 unfolding commandIn
 returns c = rw (le-leb _ _ (c .before .before .if1 .taken), c .command-of .ensures)
@@ -22,4 +19,4 @@ unfolding commandIn
 returns-2 c = rw (lt-leb _ _ (c .if1 .left))
 
 pub command-in-spec : {M : Type 1} → statement M
-command-in-spec = tie.close (tie.spec slice-aggregate-command-of command-of-requires returns returns-2)
+command-in-spec = tie.close (tie.spec slice-aggregate-command-of (λ c κs. search needs) returns returns-2)

@@ -7,18 +7,6 @@ use Rattle.console.specs.Gathered.{countAfter}
 use Rattle.console.proofs.gather.gather.Statement.{statement}
 use Rattle.console.proofs.gather.gather.Tie as tie
 
-slice-write-buffer : tie.Need-slice-write-buffer
-slice-write-buffer c = search needs
-
-add-result : tie.Need-add-result
-add-result c = search needs
-
-add-result-2 : tie.Need-add-result-2
-add-result-2 c = search needs
-
-same-length : tie.Need-same-length
-same-length c = search needs
-
 returns : tie.Need-returns
 unfolding countAfter
 returns c = (rw (lt-ltb _ _ (c .if1 .taken)), refl)
@@ -29,4 +17,4 @@ returns-2 c = (rw (le-ltb _ _ (c .if1 .left)), sym (set-out _ _ _ (c .if1 .left)
 
 pub gather-spec : {M : Type 1} → statement M
 gather-spec =
-    tie.close (tie.spec slice-write-buffer add-result add-result-2 same-length returns returns-2)
+    tie.close (tie.spec (λ c. search needs) (λ c. search needs) (λ c. search needs) (λ c. search needs) returns returns-2)

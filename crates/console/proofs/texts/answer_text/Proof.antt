@@ -8,50 +8,8 @@ use Rattle.console.proofs.TextLaws.{counted}
 use Rattle.console.proofs.texts.answer_text.Statement.{statement}
 use Rattle.console.proofs.texts.answer_text.Tie as tie
 
-enum-known-answer : tie.Need-enum-known-answer
-enum-known-answer c = search needs
-
-slice-aggregate-put-numbered : tie.Need-slice-aggregate-put-numbered
-slice-aggregate-put-numbered c = search needs
-
-cast-put-numbered : tie.Need-cast-put-numbered
-cast-put-numbered c = search needs
-
-slice-aggregate-put-numbered-2 : tie.Need-slice-aggregate-put-numbered-2
-slice-aggregate-put-numbered-2 c = search needs
-
-put-numbered-requires : tie.Need-put-numbered-requires
-put-numbered-requires c κs = search needs
-
-enum-known-answer-2 : tie.Need-enum-known-answer-2
-enum-known-answer-2 c = search needs
-
-slice-aggregate-put-numbered-3 : tie.Need-slice-aggregate-put-numbered-3
-slice-aggregate-put-numbered-3 c = search needs
-
-cast-put-numbered-2 : tie.Need-cast-put-numbered-2
-cast-put-numbered-2 c = search needs
-
-slice-aggregate-put-numbered-4 : tie.Need-slice-aggregate-put-numbered-4
-slice-aggregate-put-numbered-4 c = search needs
-
-put-numbered-requires-2 : tie.Need-put-numbered-requires-2
-put-numbered-requires-2 c κs = search needs
-
 enum-told : tie.Need-enum-told
 enum-told c = search needs
-
-enum-told-2 : tie.Need-enum-told-2
-enum-told-2 c = search needs
-
-slice-aggregate-put-numbered-5 : tie.Need-slice-aggregate-put-numbered-5
-slice-aggregate-put-numbered-5 c = search needs
-
-slice-aggregate-put-numbered-6 : tie.Need-slice-aggregate-put-numbered-6
-slice-aggregate-put-numbered-6 c = search needs
-
-put-numbered-requires-3 : tie.Need-put-numbered-requires-3
-put-numbered-requires-3 c κs = search needs
 
 returns : tie.Need-returns
 unfolding answerText
@@ -73,21 +31,21 @@ pub answer-text-spec : {M : Type 1} → statement M
 answer-text-spec =
     tie.close
     (tie.spec
-    enum-known-answer
-    slice-aggregate-put-numbered
-    cast-put-numbered
-    slice-aggregate-put-numbered-2
-    put-numbered-requires
-    enum-known-answer-2
-    slice-aggregate-put-numbered-3
-    cast-put-numbered-2
-    slice-aggregate-put-numbered-4
-    put-numbered-requires-2
+    (λ c. search needs)
+    (λ c. search needs)
+    (λ c. search needs)
+    (λ c. search needs)
+    (λ c κs. search needs)
+    (λ c. search needs)
+    (λ c. search needs)
+    (λ c. search needs)
+    (λ c. search needs)
+    (λ c κs. search needs)
     enum-told
-    enum-told-2
-    slice-aggregate-put-numbered-5
-    slice-aggregate-put-numbered-6
-    put-numbered-requires-3
+    (λ c. search needs)
+    (λ c. search needs)
+    (λ c. search needs)
+    (λ c κs. search needs)
     returns
     returns-2
     returns-3

@@ -8,35 +8,11 @@ use Rattle.console.proofs.TextLaws.{three-sets}
 use Rattle.console.proofs.texts.put_byte.Statement.{statement}
 use Rattle.console.proofs.texts.put_byte.Tie as tie
 
-mul-at : tie.Need-mul-at
-mul-at c = search needs
-
-hex-digit-requires : tie.Need-hex-digit-requires
-hex-digit-requires c κs = search needs
-
-slice-write-out : tie.Need-slice-write-out
-slice-write-out c = search needs
-
-hex-digit-requires-2 : tie.Need-hex-digit-requires-2
-hex-digit-requires-2 c κs = search needs
-
-add-out : tie.Need-add-out
-add-out c = search needs
-
 slice-write-out-2 : tie.Need-slice-write-out-2
 slice-write-out-2 c = simp length-set (omega arith)
 
-separator-requires : tie.Need-separator-requires
-separator-requires c κs = search needs
-
-add-out-2 : tie.Need-add-out-2
-add-out-2 c = search needs
-
 slice-write-out-3 : tie.Need-slice-write-out-3
 slice-write-out-3 c = simp length-set (omega arith)
-
-same-length : tie.Need-same-length
-same-length c = search needs
 
 returns : tie.Need-returns
 unfolding byteText
@@ -48,14 +24,14 @@ pub put-byte-spec : {M : Type 1} → statement M
 put-byte-spec =
     tie.close
     (tie.spec
-    mul-at
-    hex-digit-requires
-    slice-write-out
-    hex-digit-requires-2
-    add-out
+    (λ c. search needs)
+    (λ c κs. search needs)
+    (λ c. search needs)
+    (λ c κs. search needs)
+    (λ c. search needs)
     slice-write-out-2
-    separator-requires
-    add-out-2
+    (λ c κs. search needs)
+    (λ c. search needs)
     slice-write-out-3
-    same-length
+    (λ c. search needs)
     returns)

@@ -6,19 +6,10 @@ use Rattle.console.proofs.TextLaws.{decimal-length, numbered-laid, numb
 use Rattle.console.proofs.texts.put_numbered.Statement.{statement}
 use Rattle.console.proofs.texts.put_numbered.Tie as tie
 
-put-requires : tie.Need-put-requires
-put-requires c κs = search needs
-
-put-decimal-requires : tie.Need-put-decimal-requires
-put-decimal-requires c κs = search needs
-
 put-requires-2 : tie.Need-put-requires-2
 put-requires-2 c κs =
     let d = c .before .before .before in let p = d .before .before .before .before in let s = p .before .before .before .before .before in
     omega (arith, s .pre, p .put .ensures .0, p .put .kept .0, d .put-decimal .ensures .0, d .put-decimal .kept .0, decimal-length 20 (s .args .n))
-
-same-length : tie.Need-same-length
-same-length c = search needs
 
 returns : tie.Need-returns
 returns c =
@@ -28,4 +19,4 @@ returns c =
 
 pub put-numbered-spec : {M : Type 1} → statement M
 put-numbered-spec =
-    tie.close (tie.spec put-requires put-decimal-requires put-requires-2 same-length returns)
+    tie.close (tie.spec (λ c κs. search needs) (λ c κs. search needs) put-requires-2 (λ c. search needs) returns)

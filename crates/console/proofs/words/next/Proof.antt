@@ -5,20 +5,11 @@ use Rattle.console.proofs.ScanLaws.{tail, span-le}
 use Rattle.console.proofs.words.next.Statement.{statement}
 use Rattle.console.proofs.words.next.Tie as tie
 
-span-requires : tie.Need-span-requires
-span-requires c κs = search needs
-
 sub-skip : tie.Need-sub-skip
 sub-skip c = rw (c .span .ensures) (span-le _ _)
 
 part-skip-start : tie.Need-part-skip-start
 part-skip-start c = rw (c .span .ensures) (span-le _ _)
-
-part-skip-end : tie.Need-part-skip-end
-part-skip-end c = search needs
-
-skip-requires : tie.Need-skip-requires
-skip-requires c κs = search needs
 
 returns : tie.Need-returns
 unfolding nextOf
@@ -26,4 +17,4 @@ returns c = rw (c .skip .ensures, tail, c .before .before .span .ensures)
 
 pub next-spec : {M : Type 1} → statement M
 next-spec =
-    tie.close (tie.spec span-requires sub-skip part-skip-start part-skip-end skip-requires returns)
+    tie.close (tie.spec (λ c κs. search needs) sub-skip part-skip-start (λ c. search needs) (λ c κs. search needs) returns)

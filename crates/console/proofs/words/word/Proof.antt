@@ -7,9 +7,6 @@ use Rattle.console.proofs.ScanLaws.{span-le}
 use Rattle.console.proofs.words.word.Statement.{statement}
 use Rattle.console.proofs.words.word.Tie as tie
 
-span-requires : tie.Need-span-requires
-span-requires c κs = search needs
-
 slice-aggregate-result : tie.Need-slice-aggregate-result
 slice-aggregate-result c = sym (length-take-le _ _ (rw (c .before .span .ensures) (span-le _ _)))
 
@@ -18,4 +15,4 @@ unfolding wordOf
 returns c = rw (← c .before .span .ensures)
 
 pub word-spec : {M : Type 1} → statement M
-word-spec = tie.close (tie.spec span-requires slice-aggregate-result returns)
+word-spec = tie.close (tie.spec (λ c κs. search needs) slice-aggregate-result returns)

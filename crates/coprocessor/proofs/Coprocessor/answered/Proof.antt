@@ -29,9 +29,6 @@ left-by c =
     choose-true _ _ (fine c) ∙ ap (settledBy (start .args .w)) (sym (start .pre .0))
     ∙ ap (λ t. choose t (started (start .args .w .length) (start .args .next)) (start .args .next)) (sym (start .pre .1))
 
-accepts-requires : tie.Need-accepts-requires
-accepts-requires c κs = search needs
-
 returns : tie.Need-returns
 unfolding writeAnswer
 returns c =
@@ -44,9 +41,6 @@ returns c =
 
 cast-start : tie.Need-cast-start
 cast-start c = let short = placed-known _ _ (write-placed _ _ (fine (c .before .before))) .short in search (needs, short)
-
-start-requires : tie.Need-start-requires
-start-requires c κs = search needs
 
 returns-2 : tie.Need-returns-2
 unfolding writeAnswer
@@ -63,4 +57,4 @@ returns-3 c =
     λ i. record { refusal = e .before .before .pre .2 i; coprocessor = kept i }
 
 pub answered-spec : {M : Type 1} → statement M
-answered-spec = tie.close (tie.spec accepts-requires returns cast-start start-requires returns-2 returns-3)
+answered-spec = tie.close (tie.spec (λ c κs. search needs) returns cast-start (λ c κs. search needs) returns-2 returns-3)

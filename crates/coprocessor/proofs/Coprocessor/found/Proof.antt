@@ -13,9 +13,6 @@ answered : (c : tie.After-accepts)
     → c .accepts .result ≡ isAccepted (readRefusal (c .before .args .self) (c .before .args .offset) (c .before .args .length))
 answered c = c .accepts .ensures ∙ ap isAccepted (c .before .pre)
 
-accepts-requires : tie.Need-accepts-requires
-accepts-requires c κs = search needs
-
 value-at-requires : tie.Need-value-at-requires
 value-at-requires c κs = read-placed _ _ _ (sym (answered (c .before)) ∙ c .if1 .taken)
 
@@ -38,4 +35,4 @@ returns-2 c =
     λ i. record { refusal = start .pre i; value = none i; coprocessor = a .self }
 
 pub found-spec : {M : Type 1} → statement M
-found-spec = tie.close (tie.spec accepts-requires value-at-requires returns returns-2)
+found-spec = tie.close (tie.spec (λ c κs. search needs) value-at-requires returns returns-2)

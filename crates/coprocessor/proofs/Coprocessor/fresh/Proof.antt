@@ -5,15 +5,6 @@ use borrow.Author.Needs.{needs}
 use Rattle.coprocessor.proofs.Coprocessor.fresh.Statement.{statement}
 use Rattle.coprocessor.proofs.Coprocessor.fresh.Tie as tie
 
-size-holds-requires : tie.Need-size-holds-requires
-size-holds-requires c κs = search needs
-
-zero-requires : tie.Need-zero-requires
-zero-requires c κs = search needs
-
-zero-requires-2 : tie.Need-zero-requires-2
-zero-requires-2 c κs = search needs
-
 returns : tie.Need-returns
 unfolding freshAnswer
 returns c = simp (sym (c .before .before .size-holds .ensures) ∙ c .before .if1 .taken, c .zero .ensures)
@@ -24,4 +15,4 @@ returns-2 c = simp (sym (c .before .before .size-holds .ensures) ∙ c .before .
 
 pub fresh-spec : {M : Type 1} → statement M
 fresh-spec =
-    tie.close (tie.spec size-holds-requires zero-requires zero-requires-2 returns returns-2)
+    tie.close (tie.spec (λ c κs. search needs) (λ c κs. search needs) (λ c κs. search needs) returns returns-2)

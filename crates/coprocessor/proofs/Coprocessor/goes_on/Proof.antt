@@ -6,24 +6,9 @@ use borrow.Author.Needs.{needs}
 use Rattle.coprocessor.proofs.Coprocessor.goes_on.Statement.{statement}
 use Rattle.coprocessor.proofs.Coprocessor.goes_on.Tie as tie
 
-is-unfinished-requires : tie.Need-is-unfinished-requires
-is-unfinished-requires c κs = search needs
-
 returns : tie.Need-returns
 unfolding goesOn
 returns c = simp (sym (c .before .is-unfinished .ensures) ∙ not-true _ (c .if1 .taken))
-
-counters-hold-requires : tie.Need-counters-hold-requires
-counters-hold-requires c κs = search needs
-
-start-refusal-requires : tie.Need-start-refusal-requires
-start-refusal-requires c κs = search needs
-
-accepts-requires : tie.Need-accepts-requires
-accepts-requires c κs = search needs
-
-pointers-hold-requires : tie.Need-pointers-hold-requires
-pointers-hold-requires c κs = search needs
 
 returns-2 : tie.Need-returns-2
 unfolding goesOn
@@ -36,10 +21,10 @@ pub goes-on-spec : {M : Type 1} → statement M
 goes-on-spec =
     tie.close
     (tie.spec
-    is-unfinished-requires
+    (λ c κs. search needs)
     returns
-    counters-hold-requires
-    start-refusal-requires
-    accepts-requires
-    pointers-hold-requires
+    (λ c κs. search needs)
+    (λ c κs. search needs)
+    (λ c κs. search needs)
+    (λ c κs. search needs)
     returns-2)

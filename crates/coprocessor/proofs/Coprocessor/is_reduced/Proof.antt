@@ -4,16 +4,10 @@ use borrow.Author.Needs.{needs}
 use Rattle.coprocessor.proofs.Coprocessor.is_reduced.Statement.{statement}
 use Rattle.coprocessor.proofs.Coprocessor.is_reduced.Tie as tie
 
-maps-are-reduced-requires : tie.Need-maps-are-reduced-requires
-maps-are-reduced-requires c κs = search needs
-
-registers-are-reduced-requires : tie.Need-registers-are-reduced-requires
-registers-are-reduced-requires c κs = search needs
-
 returns : tie.Need-returns
 unfolding reducedOf
 returns c = rw (c .registers-are-reduced .ensures, c .before .maps-are-reduced .ensures)
 
 pub is-reduced-spec : {M : Type 1} → statement M
 is-reduced-spec =
-    tie.close (tie.spec maps-are-reduced-requires registers-are-reduced-requires returns)
+    tie.close (tie.spec (λ c κs. search needs) (λ c κs. search needs) returns)

@@ -4,19 +4,10 @@ use borrow.Author.Needs.{needs}
 use Rattle.coprocessor.proofs.Coprocessor.is_valid.Statement.{statement}
 use Rattle.coprocessor.proofs.Coprocessor.is_valid.Tie as tie
 
-size-holds-requires : tie.Need-size-holds-requires
-size-holds-requires c κs = search needs
-
-is-reduced-requires : tie.Need-is-reduced-requires
-is-reduced-requires c κs = search needs
-
-goes-on-requires : tie.Need-goes-on-requires
-goes-on-requires c κs = search needs
-
 returns : tie.Need-returns
 unfolding validOf
 returns c = rw (c .goes-on .ensures, c .before .is-reduced .ensures, c .before .before .size-holds .ensures)
 
 pub is-valid-spec : {M : Type 1} → statement M
 is-valid-spec =
-    tie.close (tie.spec size-holds-requires is-reduced-requires goes-on-requires returns)
+    tie.close (tie.spec (λ c κs. search needs) (λ c κs. search needs) (λ c κs. search needs) returns)

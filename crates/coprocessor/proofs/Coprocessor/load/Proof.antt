@@ -11,12 +11,6 @@ use Rattle.coprocessor.proofs.Coprocessor.load.Tie as tie
 opened : (c : tie.After-accepts) → c .accepts .result ≡ loads (c .before .before .before .args .buffer .now)
 opened c = c .accepts .ensures ∙ ap (λ (a : Written). isAccepted (a .refusal)) (c .before .unpack .ensures) ∙ open-accepts _
 
-unpack-requires : tie.Need-unpack-requires
-unpack-requires c κs = search needs
-
-accepts-requires : tie.Need-accepts-requires
-accepts-requires c κs = search needs
-
 returns : tie.Need-returns
 returns c = c .before .before .unpack .ensures ∙ sym (load-opened _ _ (sym (opened (c .before)) ∙ c .if1 .taken))
 
@@ -28,4 +22,4 @@ returns-2 c =
     simp fails (λ i. record { refusal = refusal i; coprocessor = c .before .before .before .before .args .self })
 
 pub load-spec : {M : Type 1} → statement M
-load-spec = tie.close (tie.spec unpack-requires accepts-requires returns returns-2)
+load-spec = tie.close (tie.spec (λ c κs. search needs) (λ c κs. search needs) returns returns-2)

@@ -32,15 +32,9 @@ no-function c =
     let start = c .before .before .before .before .before .before .before .before in
     rw (c .before .touches .ensures, touched-one 0x7F _, c .draws .ensures, start .pre .0)
 
-is-placed-requires : tie.Need-is-placed-requires
-is-placed-requires c κs = search needs
-
 returns : tie.Need-returns
 unfolding lowerRefusal
 returns c = simp (sym (c .before .is-placed .ensures) ∙ not-true _ (c .if1 .taken))
-
-is-unfinished-requires : tie.Need-is-unfinished-requires
-is-unfinished-requires c κs = search needs
 
 returns-2 : tie.Need-returns-2
 unfolding lowerRefusal
@@ -52,12 +46,6 @@ is-listed-requires c κs = let p = placed-known _ _ (place (c .before)) in (p .l
 returns-3 : tie.Need-returns-3
 unfolding lowerRefusal
 returns-3 c = simp (place (c .before .before .before), idle (c .before), sym (c .before .is-listed .ensures) ∙ not-true _ (c .if3 .taken))
-
-touches-requires : tie.Need-touches-requires
-touches-requires c κs = search needs
-
-draws-requires : tie.Need-draws-requires
-draws-requires c κs = search needs
 
 returns-4 : tie.Need-returns-4
 unfolding lowerRefusal
@@ -85,9 +73,6 @@ then-rules c = simp (
   sym (no-function (c .before)) ∙ c .if4 .left,
 )
 
-start-refusal-requires : tie.Need-start-refusal-requires
-start-refusal-requires c κs = search needs
-
 returns-5 : tie.Need-returns-5
 unfolding startedRefusal
 returns-5 c =
@@ -103,15 +88,15 @@ pub lower-refusal-spec : {M : Type 1} → statement M
 lower-refusal-spec =
     tie.close
     (tie.spec
-    is-placed-requires
+    (λ c κs. search needs)
     returns
-    is-unfinished-requires
+    (λ c κs. search needs)
     returns-2
     is-listed-requires
     returns-3
-    touches-requires
-    draws-requires
+    (λ c κs. search needs)
+    (λ c κs. search needs)
     returns-4
-    start-refusal-requires
+    (λ c κs. search needs)
     returns-5
     returns-6)

@@ -17,22 +17,10 @@ left : (c : tie.After-run) → let a = c .before .before .before .before .before
 unfolding ranOf
 left c = rw (← c .before .before .before .setup .ensures, ← c .before .before .pen .ensures) (c .run .ensures)
 
-setup-requires : tie.Need-setup-requires
-setup-requires c κs = search needs
-
-pen-requires : tie.Need-pen-requires
-pen-requires c κs = search needs
-
 run-requires : tie.Need-run-requires
 run-requires c κs =
     let start = c .before .before .before .before in
     rw (c .before .before .setup .ensures, c .before .pen .ensures) (known-safe (start .args .self) (start .args .memory .now) (start .pre .0) (start .pre .1))
-
-with-pen-requires : tie.Need-with-pen-requires
-with-pen-requires c κs = search needs
-
-same-length : tie.Need-same-length
-same-length c = search needs
 
 returns : tie.Need-returns
 unfolding runAnswer runMemory
@@ -53,4 +41,4 @@ returns c =
 pub ran-spec : {M : Type 1} → statement M
 ran-spec =
     tie.close
-    (tie.spec setup-requires pen-requires run-requires with-pen-requires same-length returns)
+    (tie.spec (λ c κs. search needs) (λ c κs. search needs) run-requires (λ c κs. search needs) (λ c. search needs) returns)

@@ -6,14 +6,8 @@ use Rattle.coprocessor.proofs.Coprocessor.read_known.Statement.{stateme
 use Rattle.coprocessor.proofs.Coprocessor.read_known.Tie as tie
 use Rattle.coprocessor.proofs.Coprocessor.read_known.Reads as reads
 
-place-refusal-requires : tie.Need-place-refusal-requires
-place-refusal-requires c κs = search needs
-
 found-requires : tie.Need-found-requires
 found-requires c κs = c .place-refusal .ensures ∙ sym (read-then10 _ _ _ ∙ valid-then10 _ _ (c .before .pre))
 
-returns : tie.Need-returns
-returns c = search needs
-
 pub read-known-spec : {M : Type 1} → statement M
-read-known-spec = tie.close (tie.spec place-refusal-requires found-requires returns)
+read-known-spec = tie.close (tie.spec (λ c κs. search needs) found-requires (λ c. search needs))

@@ -12,17 +12,8 @@ use Rattle.coprocessor.proofs.Coprocessor.read_refusal.Reads as reads
 place : (c : tie.After-accepts) → c .accepts .result ≡ isAccepted (placeRefusal (c .before .before .args .offset) (c .before .before .args .length))
 place c = c .accepts .ensures ∙ ap isAccepted (c .before .place-refusal .ensures)
 
-place-refusal-requires : tie.Need-place-refusal-requires
-place-refusal-requires c κs = search needs
-
-accepts-requires : tie.Need-accepts-requires
-accepts-requires c κs = search needs
-
 returns : tie.Need-returns
 returns c = c .before .before .place-refusal .ensures ∙ sym (read-then10 _ _ _ ∙ simp (sym (place (c .before)) ∙ not-true _ (c .if1 .taken)))
-
-is-valid-requires : tie.Need-is-valid-requires
-is-valid-requires c κs = search needs
 
 returns-2 : tie.Need-returns-2
 returns-2 c = sym (read-then10 _ _ _ ∙ simp (
@@ -40,9 +31,9 @@ pub read-refusal-spec : {M : Type 1} → statement M
 read-refusal-spec =
     tie.close
     (tie.spec
-    place-refusal-requires
-    accepts-requires
+    (λ c κs. search needs)
+    (λ c κs. search needs)
     returns
-    is-valid-requires
+    (λ c κs. search needs)
     returns-2
     returns-3)

@@ -13,15 +13,6 @@ answered : (c : tie.After-accepts) → let a = c .before .before .before .before
     c .accepts .result ≡ isAccepted (runRefusal (a .self) (a .memory .now))
 answered c = c .accepts .ensures ∙ ap isAccepted (c .before .run-refusal .ensures)
 
-run-refusal-requires : tie.Need-run-refusal-requires
-run-refusal-requires c κs = search needs
-
-accepts-requires : tie.Need-accepts-requires
-accepts-requires c κs = search needs
-
-same-length : tie.Need-same-length
-same-length c = search needs
-
 returns : tie.Need-returns
 unfolding runAnswer runMemory
 returns c =
@@ -38,20 +29,14 @@ returns c =
 ran-requires : tie.Need-ran-requires
 ran-requires c κs = run-allowed _ _ (sym (answered (c .before .before)) ∙ not-false _ (c .before .if1 .left))
 
-same-length-2 : tie.Need-same-length-2
-same-length-2 c = search needs
-
-returns-2 : tie.Need-returns-2
-returns-2 c = search needs
-
 pub run-spec : {M : Type 1} → statement M
 run-spec =
     tie.close
     (tie.spec
-    run-refusal-requires
-    accepts-requires
-    same-length
+    (λ c κs. search needs)
+    (λ c κs. search needs)
+    (λ c. search needs)
     returns
     ran-requires
-    same-length-2
-    returns-2)
+    (λ c. search needs)
+    (λ c. search needs))

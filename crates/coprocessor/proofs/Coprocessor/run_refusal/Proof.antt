@@ -6,15 +6,9 @@ use borrow.Author.Needs.{needs}
 use Rattle.coprocessor.proofs.Coprocessor.run_refusal.Statement.{statement}
 use Rattle.coprocessor.proofs.Coprocessor.run_refusal.Tie as tie
 
-cast-if1 : tie.Need-cast-if1
-cast-if1 c = search needs
-
 returns : tie.Need-returns
 unfolding runRefusal
 returns c = simp (ne-eqb _ _ (c .if1 .taken))
-
-is-valid-requires : tie.Need-is-valid-requires
-is-valid-requires c κs = search needs
 
 returns-2 : tie.Need-returns-2
 unfolding runRefusal
@@ -25,4 +19,4 @@ unfolding runRefusal
 returns-3 c = simp (eq-eqb _ _ (c .before .before .if1 .left), sym (c .before .is-valid .ensures) ∙ not-false _ (c .if2 .left))
 
 pub run-refusal-spec : {M : Type 1} → statement M
-run-refusal-spec = tie.close (tie.spec cast-if1 returns is-valid-requires returns-2 returns-3)
+run-refusal-spec = tie.close (tie.spec (λ c. search needs) returns (λ c κs. search needs) returns-2 returns-3)

@@ -10,18 +10,9 @@ returns : tie.Need-returns
 unfolding saves saveRefusal saved
 returns c = simp (ne-eqb _ _ (c .if1 .taken)) (refl, refl)
 
-is-valid-requires : tie.Need-is-valid-requires
-is-valid-requires c κs = search needs
-
 returns-2 : tie.Need-returns-2
 unfolding saves saveRefusal saved
 returns-2 c = simp (eq-eqb _ _ (c .before .before .if1 .left), sym (c .before .is-valid .ensures) ∙ not-true _ (c .if2 .taken)) (refl, refl)
-
-save-known-requires : tie.Need-save-known-requires
-save-known-requires c κs = search needs
-
-same-length : tie.Need-same-length
-same-length c = search needs
 
 returns-3 : tie.Need-returns-3
 unfolding saves saveRefusal saved
@@ -33,4 +24,4 @@ returns-3 c =
 pub save-spec : {M : Type 1} → statement M
 save-spec =
     tie.close
-    (tie.spec returns is-valid-requires returns-2 save-known-requires same-length returns-3)
+    (tie.spec returns (λ c κs. search needs) returns-2 (λ c κs. search needs) (λ c. search needs) returns-3)

@@ -4,15 +4,9 @@ use borrow.Author.Needs.{needs}
 use Rattle.coprocessor.proofs.Coprocessor.save_known.Statement.{statement}
 use Rattle.coprocessor.proofs.Coprocessor.save_known.Tie as tie
 
-lay-requires : tie.Need-lay-requires
-lay-requires c κs = search needs
-
-same-length : tie.Need-same-length
-same-length c = search needs
-
 returns : tie.Need-returns
 unfolding imageOf
 returns c = c .before .before .lay .ensures
 
 pub save-known-spec : {M : Type 1} → statement M
-save-known-spec = tie.close (tie.spec lay-requires same-length returns)
+save-known-spec = tie.close (tie.spec (λ c κs. search needs) (λ c. search needs) returns)

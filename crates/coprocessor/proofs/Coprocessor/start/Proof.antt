@@ -8,15 +8,6 @@ use borrow.Author.Needs.{needs}
 use Rattle.coprocessor.proofs.Coprocessor.start.Statement.{statement}
 use Rattle.coprocessor.proofs.Coprocessor.start.Tie as tie
 
-start-pointers-requires : tie.Need-start-pointers-requires
-start-pointers-requires c κs = search needs
-
-with-moved-requires : tie.Need-with-moved-requires
-with-moved-requires c κs = search needs
-
-start-drawing-requires : tie.Need-start-drawing-requires
-start-drawing-requires c κs = search needs
-
 returns : tie.Need-returns
 unfolding started
 returns c =
@@ -27,4 +18,4 @@ returns c =
 
 pub start-spec : {M : Type 1} → statement M
 start-spec =
-    tie.close (tie.spec start-pointers-requires with-moved-requires start-drawing-requires returns)
+    tie.close (tie.spec (λ c κs. search needs) (λ c κs. search needs) (λ c κs. search needs) returns)

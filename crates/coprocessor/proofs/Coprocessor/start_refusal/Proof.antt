@@ -4,12 +4,9 @@ use borrow.Author.Needs.{needs}
 use Rattle.coprocessor.proofs.Coprocessor.start_refusal.Statement.{statement}
 use Rattle.coprocessor.proofs.Coprocessor.start_refusal.Tie as tie
 
-start-refusal-requires : tie.Need-start-refusal-requires
-start-refusal-requires c κs = search needs
-
 returns : tie.Need-returns
 unfolding startRefusalOf
 returns c = c .start-refusal .ensures
 
 pub start-refusal-spec : {M : Type 1} → statement M
-start-refusal-spec = tie.close (tie.spec start-refusal-requires returns)
+start-refusal-spec = tie.close (tie.spec (λ c κs. search needs) returns)

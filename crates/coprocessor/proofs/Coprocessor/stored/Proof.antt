@@ -4,12 +4,6 @@ use borrow.Author.Needs.{needs}
 use Rattle.coprocessor.proofs.Coprocessor.stored.Statement.{statement}
 use Rattle.coprocessor.proofs.Coprocessor.stored.Tie as tie
 
-latch-maps-requires : tie.Need-latch-maps-requires
-latch-maps-requires c κs = search needs
-
-latch-registers-requires : tie.Need-latch-registers-requires
-latch-registers-requires c κs = search needs
-
 returns : tie.Need-returns
 unfolding stored
 returns c =
@@ -17,4 +11,4 @@ returns c =
     λ i. record { size = self .size; maps = c .before .latch-maps .ensures i; registers = c .latch-registers .ensures i; drawing = self .drawing }
 
 pub stored-spec : {M : Type 1} → statement M
-stored-spec = tie.close (tie.spec latch-maps-requires latch-registers-requires returns)
+stored-spec = tie.close (tie.spec (λ c κs. search needs) (λ c κs. search needs) returns)

@@ -11,21 +11,9 @@ use borrow.Author.Needs.{needs}
 use Rattle.coprocessor.proofs.Coprocessor.unpack.Statement.{statement}
 use Rattle.coprocessor.proofs.Coprocessor.unpack.Tie as tie
 
-zero-requires : tie.Need-zero-requires
-zero-requires c κs = search needs
-
 returns : tie.Need-returns
 unfolding loads openedOf
 returns c = simp (ne-eqb _ _ (c .before .if1 .taken)) (rw (c .zero .ensures))
-
-record-from-requires : tie.Need-record-from-requires
-record-from-requires c κs = search needs
-
-loads-requires : tie.Need-loads-requires
-loads-requires c κs = search needs
-
-refusal-of-requires : tie.Need-refusal-of-requires
-refusal-of-requires c κs = search needs
 
 returns-2 : tie.Need-returns-2
 unfolding openedOf
@@ -37,9 +25,9 @@ pub unpack-spec : {M : Type 1} → statement M
 unpack-spec =
     tie.close
     (tie.spec
-    zero-requires
+    (λ c κs. search needs)
     returns
-    record-from-requires
-    loads-requires
-    refusal-of-requires
+    (λ c κs. search needs)
+    (λ c κs. search needs)
+    (λ c κs. search needs)
     returns-2)

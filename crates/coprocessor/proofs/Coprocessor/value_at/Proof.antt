@@ -12,15 +12,6 @@ use borrow.Author.Needs.{needs}
 use Rattle.coprocessor.proofs.Coprocessor.value_at.Statement.{statement}
 use Rattle.coprocessor.proofs.Coprocessor.value_at.Tie as tie
 
-bank-requires : tie.Need-bank-requires
-bank-requires c κs = search needs
-
-cast-i : tie.Need-cast-i
-cast-i c = search needs
-
-mul-part : tie.Need-mul-part
-mul-part c = search needs
-
 array-read-part : tie.Need-array-read-part
 array-read-part c = let p = placed-known _ _ (c .before .before .before .pre) in omega (arith, p .low)
 
@@ -39,4 +30,4 @@ returns c =
 
 pub value-at-spec : {M : Type 1} → statement M
 value-at-spec =
-    tie.close (tie.spec bank-requires cast-i mul-part array-read-part part-requires returns)
+    tie.close (tie.spec (λ c κs. search needs) (λ c. search needs) (λ c. search needs) array-read-part part-requires returns)

@@ -9,9 +9,6 @@ use borrow.Author.Needs.{needs}
 use Rattle.coprocessor.proofs.Coprocessor.with_pen.Statement.{statement}
 use Rattle.coprocessor.proofs.Coprocessor.with_pen.Tie as tie
 
-with-moved-requires : tie.Need-with-moved-requires
-with-moved-requires c κs = search needs
-
 returns : tie.Need-returns
 unfolding withPen
 returns c =
@@ -21,4 +18,4 @@ returns c =
     λ i. record { size = a .self .size; maps = a .self .maps; registers = registers i; drawing = a .pen .drawing }
 
 pub with-pen-spec : {M : Type 1} → statement M
-with-pen-spec = tie.close (tie.spec with-moved-requires returns)
+with-pen-spec = tie.close (tie.spec (λ c κs. search needs) returns)

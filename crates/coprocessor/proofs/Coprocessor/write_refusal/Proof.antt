@@ -11,17 +11,8 @@ use Rattle.coprocessor.proofs.Coprocessor.write_refusal.Tie as tie
 lower : (c : tie.After-accepts) → c .accepts .result ≡ isAccepted (lowerRefusal (c .before .before .args .w) (c .before .before .args .self))
 lower c = c .accepts .ensures ∙ ap isAccepted (c .before .lower-refusal .ensures)
 
-lower-refusal-requires : tie.Need-lower-refusal-requires
-lower-refusal-requires c κs = search needs
-
-accepts-requires : tie.Need-accepts-requires
-accepts-requires c κs = search needs
-
 returns : tie.Need-returns
 returns c = c .before .before .lower-refusal .ensures ∙ sym (write-then10 _ _ ∙ simp (sym (lower (c .before)) ∙ not-true _ (c .if1 .taken)))
-
-is-valid-requires : tie.Need-is-valid-requires
-is-valid-requires c κs = search needs
 
 returns-2 : tie.Need-returns-2
 returns-2 c = sym (write-then10 _ _ ∙ simp (
@@ -39,9 +30,9 @@ pub write-refusal-spec : {M : Type 1} → statement M
 write-refusal-spec =
     tie.close
     (tie.spec
-    lower-refusal-requires
-    accepts-requires
+    (λ c κs. search needs)
+    (λ c κs. search needs)
     returns
-    is-valid-requires
+    (λ c κs. search needs)
     returns-2
     returns-3)

@@ -4,12 +4,9 @@ use borrow.Author.Needs.{needs}
 use Rattle.coprocessor.proofs.fresh.zero.Statement.{statement}
 use Rattle.coprocessor.proofs.fresh.zero.Tie as tie
 
-zero-registers-requires : tie.Need-zero-registers-requires
-zero-registers-requires c κs = search needs
-
 returns : tie.Need-returns
 unfolding freshOf
 returns c = rw (c .zero-registers .ensures)
 
 pub zero-spec : {M : Type 1} → statement M
-zero-spec = tie.close (tie.spec zero-registers-requires returns)
+zero-spec = tie.close (tie.spec (λ c κs. search needs) returns)

@@ -6,21 +6,6 @@ use borrow.Author.Needs.{needs}
 use Rattle.coprocessor.proofs.loads.loads.Statement.{statement}
 use Rattle.coprocessor.proofs.loads.loads.Tie as tie
 
-counters-from-requires : tie.Need-counters-from-requires
-counters-from-requires c κs = search needs
-
-counters-of-requires : tie.Need-counters-of-requires
-counters-of-requires c κs = search needs
-
-are-same-requires : tie.Need-are-same-requires
-are-same-requires c κs = search needs
-
-is-marked-requires : tie.Need-is-marked-requires
-is-marked-requires c κs = search needs
-
-is-valid-requires : tie.Need-is-valid-requires
-is-valid-requires c κs = search needs
-
 returns : tie.Need-returns
 unfolding loadsBy
 returns c =
@@ -37,9 +22,9 @@ pub loads-spec : {M : Type 1} → statement M
 loads-spec =
     tie.close
     (tie.spec
-    counters-from-requires
-    counters-of-requires
-    are-same-requires
-    is-marked-requires
-    is-valid-requires
+    (λ c κs. search needs)
+    (λ c κs. search needs)
+    (λ c κs. search needs)
+    (λ c κs. search needs)
+    (λ c κs. search needs)
     returns)

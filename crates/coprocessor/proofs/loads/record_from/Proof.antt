@@ -6,21 +6,6 @@ use borrow.Author.Needs.{needs}
 use Rattle.coprocessor.proofs.loads.record_from.Statement.{statement}
 use Rattle.coprocessor.proofs.loads.record_from.Tie as tie
 
-registers-from-requires : tie.Need-registers-from-requires
-registers-from-requires c κs = search needs
-
-size-from-requires : tie.Need-size-from-requires
-size-from-requires c κs = search needs
-
-maps-from-requires : tie.Need-maps-from-requires
-maps-from-requires c κs = search needs
-
-counters-from-requires : tie.Need-counters-from-requires
-counters-from-requires c κs = search needs
-
-drawing-of-requires : tie.Need-drawing-of-requires
-drawing-of-requires c κs = search needs
-
 returns : tie.Need-returns
 unfolding loaded
 returns c =
@@ -37,9 +22,9 @@ pub record-from-spec : {M : Type 1} → statement M
 record-from-spec =
     tie.close
     (tie.spec
-    registers-from-requires
-    size-from-requires
-    maps-from-requires
-    counters-from-requires
-    drawing-of-requires
+    (λ c κs. search needs)
+    (λ c κs. search needs)
+    (λ c κs. search needs)
+    (λ c κs. search needs)
+    (λ c κs. search needs)
     returns)

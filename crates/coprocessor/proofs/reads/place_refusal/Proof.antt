@@ -8,9 +8,6 @@ use Rattle.coprocessor.proofs.reads.place_refusal.Statement.{statement}
 use Rattle.coprocessor.proofs.reads.place_refusal.Tie as tie
 use Rattle.coprocessor.proofs.reads.place_refusal.Reads as reads
 
-is-placed-requires : tie.Need-is-placed-requires
-is-placed-requires c κs = search needs
-
 returns : tie.Need-returns
 unfolding placeRefusal
 returns c = simp (sym (c .before .is-placed .ensures) ∙ not-true _ (c .if1 .taken))
@@ -36,4 +33,4 @@ returns-3 c = simp (
 
 pub place-refusal-spec : {M : Type 1} → statement M
 place-refusal-spec =
-    tie.close (tie.spec is-placed-requires returns is-listed-requires returns-2 returns-3)
+    tie.close (tie.spec (λ c κs. search needs) returns is-listed-requires returns-2 returns-3)

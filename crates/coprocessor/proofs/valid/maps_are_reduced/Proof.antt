@@ -5,30 +5,6 @@ use borrow.Author.Needs.{needs}
 use Rattle.coprocessor.proofs.valid.maps_are_reduced.Statement.{statement}
 use Rattle.coprocessor.proofs.valid.maps_are_reduced.Tie as tie
 
-array-copy-out-map-is-reduced : tie.Need-array-copy-out-map-is-reduced
-array-copy-out-map-is-reduced c = search needs
-
-map-is-reduced-requires : tie.Need-map-is-reduced-requires
-map-is-reduced-requires c κs = search needs
-
-array-copy-out-map-is-reduced-2 : tie.Need-array-copy-out-map-is-reduced-2
-array-copy-out-map-is-reduced-2 c = search needs
-
-map-is-reduced-requires-2 : tie.Need-map-is-reduced-requires-2
-map-is-reduced-requires-2 c κs = search needs
-
-array-copy-out-map-is-reduced-3 : tie.Need-array-copy-out-map-is-reduced-3
-array-copy-out-map-is-reduced-3 c = search needs
-
-map-is-reduced-requires-3 : tie.Need-map-is-reduced-requires-3
-map-is-reduced-requires-3 c κs = search needs
-
-array-copy-out-map-is-reduced-4 : tie.Need-array-copy-out-map-is-reduced-4
-array-copy-out-map-is-reduced-4 c = search needs
-
-map-is-reduced-requires-4 : tie.Need-map-is-reduced-requires-4
-map-is-reduced-requires-4 c κs = search needs
-
 returns : tie.Need-returns
 unfolding mapsReduced mapAt
 returns c =
@@ -44,12 +20,12 @@ pub maps-are-reduced-spec : {M : Type 1} → statement M
 maps-are-reduced-spec =
     tie.close
     (tie.spec
-    array-copy-out-map-is-reduced
-    map-is-reduced-requires
-    array-copy-out-map-is-reduced-2
-    map-is-reduced-requires-2
-    array-copy-out-map-is-reduced-3
-    map-is-reduced-requires-3
-    array-copy-out-map-is-reduced-4
-    map-is-reduced-requires-4
+    (λ c. search needs)
+    (λ c κs. search needs)
+    (λ c. search needs)
+    (λ c κs. search needs)
+    (λ c. search needs)
+    (λ c κs. search needs)
+    (λ c. search needs)
+    (λ c κs. search needs)
     returns)

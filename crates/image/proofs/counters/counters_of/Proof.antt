@@ -4,18 +4,6 @@ use borrow.Author.Needs.{needs}
 use Rattle.image.proofs.counters.counters_of.Statement.{statement}
 use Rattle.image.proofs.counters.counters_of.Tie as tie
 
-enum-known-drawing : tie.Need-enum-known-drawing
-enum-known-drawing c = search needs
-
-enum-known-drawing-2 : tie.Need-enum-known-drawing-2
-enum-known-drawing-2 c = search needs
-
-enum-known-drawing-3 : tie.Need-enum-known-drawing-3
-enum-known-drawing-3 c = search needs
-
-enum-known-drawing-4 : tie.Need-enum-known-drawing-4
-enum-known-drawing-4 c = search needs
-
 returns : tie.Need-returns
 unfolding countersOf
 returns c = rw (c .before .before .drawing .given .1, c .if1 .taken)
@@ -48,10 +36,10 @@ pub counters-of-spec : {M : Type 1} → statement M
 counters-of-spec =
     tie.close
     (tie.spec
-    enum-known-drawing
-    enum-known-drawing-2
-    enum-known-drawing-3
-    enum-known-drawing-4
+    (λ c. search needs)
+    (λ c. search needs)
+    (λ c. search needs)
+    (λ c. search needs)
     returns
     returns-2
     returns-3

@@ -14,9 +14,6 @@ returns-2 : tie.Need-returns-2
 unfolding drawingOf
 returns-2 c = simp (ne-eqb _ _ (c .before .before .if1 .left), eq-eqb _ _ (c .if2 .taken))
 
-is-line-requires : tie.Need-is-line-requires
-is-line-requires c κs = search needs
-
 returns-3 : tie.Need-returns-3
 unfolding drawingOf
 returns-3 c =
@@ -24,9 +21,6 @@ returns-3 c =
     let other = line .before in
     rw
     (ne-eqb _ _ (other .before .before .if1 .left), ne-eqb _ _ (other .if2 .left), sym (line .is-line .ensures) ∙ c .before .if3 .taken)
-
-is-codes-requires : tie.Need-is-codes-requires
-is-codes-requires c κs = search needs
 
 returns-4 : tie.Need-returns-4
 unfolding drawingOf
@@ -57,4 +51,4 @@ returns-5 c =
 pub drawing-of-spec : {M : Type 1} → statement M
 drawing-of-spec =
     tie.close
-    (tie.spec returns returns-2 is-line-requires returns-3 is-codes-requires returns-4 returns-5)
+    (tie.spec returns returns-2 (λ c κs. search needs) returns-3 (λ c κs. search needs) returns-4 returns-5)

@@ -4,24 +4,6 @@ use borrow.Author.Needs.{needs}
 use Rattle.image.proofs.laying.lay.Statement.{statement}
 use Rattle.image.proofs.laying.lay.Tie as tie
 
-counters-of-requires : tie.Need-counters-of-requires
-counters-of-requires c κs = search needs
-
-lay-head-requires : tie.Need-lay-head-requires
-lay-head-requires c κs = search needs
-
-lay-maps-requires : tie.Need-lay-maps-requires
-lay-maps-requires c κs = search needs
-
-lay-lower-requires : tie.Need-lay-lower-requires
-lay-lower-requires c κs = search needs
-
-lay-upper-requires : tie.Need-lay-upper-requires
-lay-upper-requires c κs = search needs
-
-same-length : tie.Need-same-length
-same-length c = search needs
-
 returns : tie.Need-returns
 returns c =
     let maps = c .before .before .before .before .before .before .before .before .before .before in
@@ -39,10 +21,10 @@ pub lay-spec : {M : Type 1} → statement M
 lay-spec =
     tie.close
     (tie.spec
-    counters-of-requires
-    lay-head-requires
-    lay-maps-requires
-    lay-lower-requires
-    lay-upper-requires
-    same-length
+    (λ c κs. search needs)
+    (λ c κs. search needs)
+    (λ c κs. search needs)
+    (λ c κs. search needs)
+    (λ c κs. search needs)
+    (λ c. search needs)
     returns)

@@ -7,27 +7,6 @@ use borrow.Author.Needs.{needs}
 use Rattle.image.proofs.laying.lay_terms.Statement.{statement}
 use Rattle.image.proofs.laying.lay_terms.Tie as tie
 
-word-requires : tie.Need-word-requires
-word-requires c κs = search needs
-
-store-requires : tie.Need-store-requires
-store-requires c κs = search needs
-
-word-requires-2 : tie.Need-word-requires-2
-word-requires-2 c κs = search needs
-
-store-requires-2 : tie.Need-store-requires-2
-store-requires-2 c κs = search needs
-
-word-requires-3 : tie.Need-word-requires-3
-word-requires-3 c κs = search needs
-
-store-requires-3 : tie.Need-store-requires-3
-store-requires-3 c κs = search needs
-
-same-length : tie.Need-same-length
-same-length c = search needs
-
 returns : tie.Need-returns
 unfolding le termBytes
 returns c =
@@ -48,11 +27,11 @@ pub lay-terms-spec : {M : Type 1} → statement M
 lay-terms-spec =
     tie.close
     (tie.spec
-    word-requires
-    store-requires
-    word-requires-2
-    store-requires-2
-    word-requires-3
-    store-requires-3
-    same-length
+    (λ c κs. search needs)
+    (λ c κs. search needs)
+    (λ c κs. search needs)
+    (λ c κs. search needs)
+    (λ c κs. search needs)
+    (λ c κs. search needs)
+    (λ c. search needs)
     returns)

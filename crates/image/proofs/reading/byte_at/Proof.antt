@@ -6,9 +6,6 @@ use borrow.Author.Needs.{needs}
 use Rattle.image.proofs.reading.byte_at.Statement.{statement}
 use Rattle.image.proofs.reading.byte_at.Tie as tie
 
-fetch-requires : tie.Need-fetch-requires
-fetch-requires c κs = search needs
-
 cast-result : tie.Need-cast-result
 cast-result c = omega (
   arith,
@@ -22,4 +19,4 @@ unfolding at
 returns c = c .fetch .ensures
 
 pub byte-at-spec : {M : Type 1} → statement M
-byte-at-spec = tie.close (tie.spec fetch-requires cast-result returns)
+byte-at-spec = tie.close (tie.spec (λ c κs. search needs) cast-result returns)

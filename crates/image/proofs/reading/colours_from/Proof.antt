@@ -4,30 +4,6 @@ use borrow.Author.Needs.{needs}
 use Rattle.image.proofs.reading.colours_from.Statement.{statement}
 use Rattle.image.proofs.reading.colours_from.Tie as tie
 
-byte-at-requires : tie.Need-byte-at-requires
-byte-at-requires c κs = search needs
-
-word-at-requires : tie.Need-word-at-requires
-word-at-requires c κs = search needs
-
-byte-at-requires-2 : tie.Need-byte-at-requires-2
-byte-at-requires-2 c κs = search needs
-
-word-at-requires-2 : tie.Need-word-at-requires-2
-word-at-requires-2 c κs = search needs
-
-byte-at-requires-3 : tie.Need-byte-at-requires-3
-byte-at-requires-3 c κs = search needs
-
-word-at-requires-3 : tie.Need-word-at-requires-3
-word-at-requires-3 c κs = search needs
-
-word-at-requires-4 : tie.Need-word-at-requires-4
-word-at-requires-4 c κs = search needs
-
-word-at-requires-5 : tie.Need-word-at-requires-5
-word-at-requires-5 c κs = search needs
-
 returns : tie.Need-returns
 unfolding inkFrom coloursFrom
 returns c =
@@ -45,12 +21,12 @@ pub colours-from-spec : {M : Type 1} → statement M
 colours-from-spec =
     tie.close
     (tie.spec
-    byte-at-requires
-    word-at-requires
-    byte-at-requires-2
-    word-at-requires-2
-    byte-at-requires-3
-    word-at-requires-3
-    word-at-requires-4
-    word-at-requires-5
+    (λ c κs. search needs)
+    (λ c κs. search needs)
+    (λ c κs. search needs)
+    (λ c κs. search needs)
+    (λ c κs. search needs)
+    (λ c κs. search needs)
+    (λ c κs. search needs)
+    (λ c κs. search needs)
     returns)

@@ -4,18 +4,6 @@ use borrow.Author.Needs.{needs}
 use Rattle.image.proofs.reading.counters_from.Statement.{statement}
 use Rattle.image.proofs.reading.counters_from.Tie as tie
 
-byte-at-requires : tie.Need-byte-at-requires
-byte-at-requires c κs = search needs
-
-half-at-requires : tie.Need-half-at-requires
-half-at-requires c κs = search needs
-
-half-at-requires-2 : tie.Need-half-at-requires-2
-half-at-requires-2 c κs = search needs
-
-byte-at-requires-2 : tie.Need-byte-at-requires-2
-byte-at-requires-2 c κs = search needs
-
 returns : tie.Need-returns
 unfolding countersFrom
 returns c =
@@ -31,4 +19,4 @@ returns c =
 pub counters-from-spec : {M : Type 1} → statement M
 counters-from-spec =
     tie.close
-    (tie.spec byte-at-requires half-at-requires half-at-requires-2 byte-at-requires-2 returns)
+    (tie.spec (λ c κs. search needs) (λ c κs. search needs) (λ c κs. search needs) (λ c κs. search needs) returns)

@@ -4,18 +4,6 @@ use borrow.Author.Needs.{needs}
 use Rattle.image.proofs.reading.figure_from.Statement.{statement}
 use Rattle.image.proofs.reading.figure_from.Tie as tie
 
-word-at-requires : tie.Need-word-at-requires
-word-at-requires c κs = search needs
-
-word-at-requires-2 : tie.Need-word-at-requires-2
-word-at-requires-2 c κs = search needs
-
-point-from-requires : tie.Need-point-from-requires
-point-from-requires c κs = search needs
-
-point-from-requires-2 : tie.Need-point-from-requires-2
-point-from-requires-2 c κs = search needs
-
 returns : tie.Need-returns
 unfolding pointFrom figureFrom
 returns c =
@@ -31,8 +19,8 @@ pub figure-from-spec : {M : Type 1} → statement M
 figure-from-spec =
     tie.close
     (tie.spec
-    word-at-requires
-    word-at-requires-2
-    point-from-requires
-    point-from-requires-2
+    (λ c κs. search needs)
+    (λ c κs. search needs)
+    (λ c κs. search needs)
+    (λ c κs. search needs)
     returns)

@@ -4,15 +4,9 @@ use borrow.Author.Needs.{needs}
 use Rattle.image.proofs.reading.is_marked.Statement.{statement}
 use Rattle.image.proofs.reading.is_marked.Tie as tie
 
-fetch-requires : tie.Need-fetch-requires
-fetch-requires c κs = search needs
-
-fetch-requires-2 : tie.Need-fetch-requires-2
-fetch-requires-2 c κs = search needs
-
 returns : tie.Need-returns
 unfolding at
 returns c = rw (c .fetch2 .ensures, c .before .fetch .ensures)
 
 pub is-marked-spec : {M : Type 1} → statement M
-is-marked-spec = tie.close (tie.spec fetch-requires fetch-requires-2 returns)
+is-marked-spec = tie.close (tie.spec (λ c κs. search needs) (λ c κs. search needs) returns)

@@ -5,18 +5,6 @@ use borrow.Author.Needs.{needs}
 use Rattle.image.proofs.reading.maps_from.Statement.{statement}
 use Rattle.image.proofs.reading.maps_from.Tie as tie
 
-map-from-requires : tie.Need-map-from-requires
-map-from-requires c κs = search needs
-
-map-from-requires-2 : tie.Need-map-from-requires-2
-map-from-requires-2 c κs = search needs
-
-map-from-requires-3 : tie.Need-map-from-requires-3
-map-from-requires-3 c κs = search needs
-
-map-from-requires-4 : tie.Need-map-from-requires-4
-map-from-requires-4 c κs = search needs
-
 returns : tie.Need-returns
 unfolding mapFrom mapsFrom
 returns c =
@@ -27,8 +15,8 @@ pub maps-from-spec : {M : Type 1} → statement M
 maps-from-spec =
     tie.close
     (tie.spec
-    map-from-requires
-    map-from-requires-2
-    map-from-requires-3
-    map-from-requires-4
+    (λ c κs. search needs)
+    (λ c κs. search needs)
+    (λ c κs. search needs)
+    (λ c κs. search needs)
     returns)

@@ -4,21 +4,6 @@ use borrow.Author.Needs.{needs}
 use Rattle.image.proofs.reading.registers_from.Statement.{statement}
 use Rattle.image.proofs.reading.registers_from.Tie as tie
 
-byte-at-requires : tie.Need-byte-at-requires
-byte-at-requires c κs = search needs
-
-terms-from-requires : tie.Need-terms-from-requires
-terms-from-requires c κs = search needs
-
-colours-from-requires : tie.Need-colours-from-requires
-colours-from-requires c κs = search needs
-
-figure-from-requires : tie.Need-figure-from-requires
-figure-from-requires c κs = search needs
-
-pointers-from-requires : tie.Need-pointers-from-requires
-pointers-from-requires c κs = search needs
-
 returns : tie.Need-returns
 unfolding registersFrom
 returns c =
@@ -35,9 +20,9 @@ pub registers-from-spec : {M : Type 1} → statement M
 registers-from-spec =
     tie.close
     (tie.spec
-    byte-at-requires
-    terms-from-requires
-    colours-from-requires
-    figure-from-requires
-    pointers-from-requires
+    (λ c κs. search needs)
+    (λ c κs. search needs)
+    (λ c κs. search needs)
+    (λ c κs. search needs)
+    (λ c κs. search needs)
     returns)

@@ -6,21 +6,6 @@ use borrow.Author.Needs.{needs}
 use Rattle.image.proofs.reading.spot_from.Statement.{statement}
 use Rattle.image.proofs.reading.spot_from.Tie as tie
 
-half-at-requires : tie.Need-half-at-requires
-half-at-requires c κs = search needs
-
-signed-half-requires : tie.Need-signed-half-requires
-signed-half-requires c κs = search needs
-
-add-half-at : tie.Need-add-half-at
-add-half-at c = search needs
-
-half-at-requires-2 : tie.Need-half-at-requires-2
-half-at-requires-2 c κs = search needs
-
-signed-half-requires-2 : tie.Need-signed-half-requires-2
-signed-half-requires-2 c κs = search needs
-
 returns : tie.Need-returns
 unfolding spotFrom
 returns c =
@@ -33,9 +18,9 @@ pub spot-from-spec : {M : Type 1} → statement M
 spot-from-spec =
     tie.close
     (tie.spec
-    half-at-requires
-    signed-half-requires
-    add-half-at
-    half-at-requires-2
-    signed-half-requires-2
+    (λ c κs. search needs)
+    (λ c κs. search needs)
+    (λ c. search needs)
+    (λ c κs. search needs)
+    (λ c κs. search needs)
     returns)

@@ -6,24 +6,6 @@ use borrow.Author.Needs.{needs}
 use Rattle.image.proofs.reading.terms_from.Statement.{statement}
 use Rattle.image.proofs.reading.terms_from.Tie as tie
 
-word-at-requires : tie.Need-word-at-requires
-word-at-requires c κs = search needs
-
-signed-word-requires : tie.Need-signed-word-requires
-signed-word-requires c κs = search needs
-
-word-at-requires-2 : tie.Need-word-at-requires-2
-word-at-requires-2 c κs = search needs
-
-signed-word-requires-2 : tie.Need-signed-word-requires-2
-signed-word-requires-2 c κs = search needs
-
-word-at-requires-3 : tie.Need-word-at-requires-3
-word-at-requires-3 c κs = search needs
-
-signed-word-requires-3 : tie.Need-signed-word-requires-3
-signed-word-requires-3 c κs = search needs
-
 returns : tie.Need-returns
 unfolding termsFrom
 returns c =
@@ -38,10 +20,10 @@ pub terms-from-spec : {M : Type 1} → statement M
 terms-from-spec =
     tie.close
     (tie.spec
-    word-at-requires
-    signed-word-requires
-    word-at-requires-2
-    signed-word-requires-2
-    word-at-requires-3
-    signed-word-requires-3
+    (λ c κs. search needs)
+    (λ c κs. search needs)
+    (λ c κs. search needs)
+    (λ c κs. search needs)
+    (λ c κs. search needs)
+    (λ c κs. search needs)
     returns)

@@ -4,12 +4,9 @@ use borrow.Author.Needs.{needs}
 use Rattle.image.proofs.reading.word_at.Statement.{statement}
 use Rattle.image.proofs.reading.word_at.Tie as tie
 
-fetch-requires : tie.Need-fetch-requires
-fetch-requires c κs = search needs
-
 returns : tie.Need-returns
 unfolding at
 returns c = c .fetch .ensures
 
 pub word-at-spec : {M : Type 1} → statement M
-word-at-spec = tie.close (tie.spec fetch-requires returns)
+word-at-spec = tie.close (tie.spec (λ c κs. search needs) returns)

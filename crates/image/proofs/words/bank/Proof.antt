@@ -12,48 +12,6 @@ use borrow.Author.Needs.{needs}
 use Rattle.image.proofs.words.bank.Statement.{statement}
 use Rattle.image.proofs.words.bank.Tie as tie
 
-cast-map-at : tie.Need-cast-map-at
-cast-map-at c = search needs
-
-map-at-requires : tie.Need-map-at-requires
-map-at-requires c κs = search needs
-
-index-word-requires : tie.Need-index-word-requires
-index-word-requires c κs = search needs
-
-size-word-requires : tie.Need-size-word-requires
-size-word-requires c κs = search needs
-
-format-word-requires : tie.Need-format-word-requires
-format-word-requires c κs = search needs
-
-word-requires : tie.Need-word-requires
-word-requires c κs = search needs
-
-word-requires-2 : tie.Need-word-requires-2
-word-requires-2 c κs = search needs
-
-word-requires-3 : tie.Need-word-requires-3
-word-requires-3 c κs = search needs
-
-mixes-word-requires : tie.Need-mixes-word-requires
-mixes-word-requires c κs = search needs
-
-point-word-requires : tie.Need-point-word-requires
-point-word-requires c κs = search needs
-
-point-word-requires-2 : tie.Need-point-word-requires-2
-point-word-requires-2 c κs = search needs
-
-point-word-requires-3 : tie.Need-point-word-requires-3
-point-word-requires-3 c κs = search needs
-
-point-word-requires-4 : tie.Need-point-word-requires-4
-point-word-requires-4 c κs = search needs
-
-spot-word-requires : tie.Need-spot-word-requires
-spot-word-requires c κs = search needs
-
 returns : tie.Need-returns
 unfolding le wordBytes mixBytes pointBytes spotBytes selected others registers mapValues otherValues valuesOf laidAt bankOf
 returns c =
@@ -99,18 +57,18 @@ pub bank-spec : {M : Type 1} → statement M
 bank-spec =
     tie.close
     (tie.spec
-    cast-map-at
-    map-at-requires
-    index-word-requires
-    size-word-requires
-    format-word-requires
-    word-requires
-    word-requires-2
-    word-requires-3
-    mixes-word-requires
-    point-word-requires
-    point-word-requires-2
-    point-word-requires-3
-    point-word-requires-4
-    spot-word-requires
+    (λ c. search needs)
+    (λ c κs. search needs)
+    (λ c κs. search needs)
+    (λ c κs. search needs)
+    (λ c κs. search needs)
+    (λ c κs. search needs)
+    (λ c κs. search needs)
+    (λ c κs. search needs)
+    (λ c κs. search needs)
+    (λ c κs. search needs)
+    (λ c κs. search needs)
+    (λ c κs. search needs)
+    (λ c κs. search needs)
+    (λ c κs. search needs)
     returns)

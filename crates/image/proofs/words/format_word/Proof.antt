@@ -7,12 +7,9 @@ use borrow.Author.Needs.{needs}
 use Rattle.image.proofs.words.format_word.Statement.{statement}
 use Rattle.image.proofs.words.format_word.Tie as tie
 
-cast-result : tie.Need-cast-result
-cast-result c = search needs
-
 returns : tie.Need-returns
 unfolding le
 returns c = digits _ 0 0 0 _ (omega arith) (lit< tt) (lit< tt) (lit< tt) (omega (arith, c .struct-known .given))
 
 pub format-word-spec : {M : Type 1} → statement M
-format-word-spec = tie.close (tie.spec cast-result returns)
+format-word-spec = tie.close (tie.spec (λ c. search needs) returns)

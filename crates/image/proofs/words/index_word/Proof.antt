@@ -7,12 +7,9 @@ use borrow.Author.Needs.{needs}
 use Rattle.image.proofs.words.index_word.Statement.{statement}
 use Rattle.image.proofs.words.index_word.Tie as tie
 
-mul-result : tie.Need-mul-result
-mul-result c = search needs
-
 returns : tie.Need-returns
 unfolding le
 returns c = digits 0 0 _ 0 _ (lit< tt) (lit< tt) (omega arith) (lit< tt) (omega arith)
 
 pub index-word-spec : {M : Type 1} → statement M
-index-word-spec = tie.close (tie.spec mul-result returns)
+index-word-spec = tie.close (tie.spec (λ c. search needs) returns)

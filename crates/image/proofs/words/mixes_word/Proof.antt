@@ -8,27 +8,6 @@ use borrow.Author.Needs.{needs}
 use Rattle.image.proofs.words.mixes_word.Statement.{statement}
 use Rattle.image.proofs.words.mixes_word.Tie as tie
 
-cast-result : tie.Need-cast-result
-cast-result c = search needs
-
-cast-result-2 : tie.Need-cast-result-2
-cast-result-2 c = search needs
-
-mul-result : tie.Need-mul-result
-mul-result c = search needs
-
-add-result : tie.Need-add-result
-add-result c = search needs
-
-cast-result-3 : tie.Need-cast-result-3
-cast-result-3 c = search needs
-
-mul-result-2 : tie.Need-mul-result-2
-mul-result-2 c = search needs
-
-add-result-2 : tie.Need-add-result-2
-add-result-2 c = search needs
-
 returns : tie.Need-returns
 unfolding le mixBytes
 returns c =
@@ -39,11 +18,11 @@ pub mixes-word-spec : {M : Type 1} → statement M
 mixes-word-spec =
     tie.close
     (tie.spec
-    cast-result
-    cast-result-2
-    mul-result
-    add-result
-    cast-result-3
-    mul-result-2
-    add-result-2
+    (λ c. search needs)
+    (λ c. search needs)
+    (λ c. search needs)
+    (λ c. search needs)
+    (λ c. search needs)
+    (λ c. search needs)
+    (λ c. search needs)
     returns)

@@ -6,21 +6,9 @@ use borrow.Author.Needs.{needs}
 use Rattle.image.proofs.words.point_word.Statement.{statement}
 use Rattle.image.proofs.words.point_word.Tie as tie
 
-cast-result : tie.Need-cast-result
-cast-result c = search needs
-
-cast-result-2 : tie.Need-cast-result-2
-cast-result-2 c = search needs
-
-mul-result : tie.Need-mul-result
-mul-result c = search needs
-
-add-result : tie.Need-add-result
-add-result c = search needs
-
 returns : tie.Need-returns
 unfolding pointBytes
 returns c = halves _ _ (omega (arith, c .before .struct-known .given)) (omega (arith, c .struct-known2 .given))
 
 pub point-word-spec : {M : Type 1} → statement M
-point-word-spec = tie.close (tie.spec cast-result cast-result-2 mul-result add-result returns)
+point-word-spec = tie.close (tie.spec (λ c. search needs) (λ c. search needs) (λ c. search needs) (λ c. search needs) returns)

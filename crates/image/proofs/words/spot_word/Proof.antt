@@ -12,24 +12,6 @@ use borrow.Author.Needs.{needs}
 use Rattle.image.proofs.words.spot_word.Statement.{statement}
 use Rattle.image.proofs.words.spot_word.Tie as tie
 
-half-word-requires : tie.Need-half-word-requires
-half-word-requires c κs = search needs
-
-half-word-requires-2 : tie.Need-half-word-requires-2
-half-word-requires-2 c κs = search needs
-
-cast-result : tie.Need-cast-result
-cast-result c = search needs
-
-cast-result-2 : tie.Need-cast-result-2
-cast-result-2 c = search needs
-
-mul-result : tie.Need-mul-result
-mul-result c = search needs
-
-add-result : tie.Need-add-result
-add-result c = search needs
-
 returns : tie.Need-returns
 unfolding spotBytes
 returns c =
@@ -41,10 +23,10 @@ pub spot-word-spec : {M : Type 1} → statement M
 spot-word-spec =
     tie.close
     (tie.spec
-    half-word-requires
-    half-word-requires-2
-    cast-result
-    cast-result-2
-    mul-result
-    add-result
+    (λ c κs. search needs)
+    (λ c κs. search needs)
+    (λ c. search needs)
+    (λ c. search needs)
+    (λ c. search needs)
+    (λ c. search needs)
     returns)

@@ -42,15 +42,6 @@ return-used-requires-2 c κs = λ used. inside-x _ _ (pattern-inside (c .before 
 turn-used-requires-2 : tie.Need-turn-used-requires-2
 turn-used-requires-2 c κs = λ used. inside-y _ _ (pattern-inside (c .before .before .before .before) used)
 
-return-by-requires : tie.Need-return-by-requires
-return-by-requires c κs = search needs
-
-destination-down-requires : tie.Need-destination-down-requires
-destination-down-requires c κs = search needs
-
-circle-by-requires : tie.Need-circle-by-requires
-circle-by-requires c κs = search needs
-
 returns : tie.Need-returns
 unfolding rowPoint rowSpot rowPassed
 returns c = let a = c .before .before .before .before .before .before .before .before .before .before .before .args in
@@ -87,7 +78,7 @@ pass-row-spec =
     turn-used-requires
     return-used-requires-2
     turn-used-requires-2
-    return-by-requires
-    destination-down-requires
-    circle-by-requires
+    (λ c κs. search needs)
+    (λ c κs. search needs)
+    (λ c κs. search needs)
     returns)

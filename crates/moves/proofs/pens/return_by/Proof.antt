@@ -5,12 +5,6 @@ use borrow.Author.Needs.{needs}
 use Rattle.moves.proofs.pens.return_by.Statement.{statement}
 use Rattle.moves.proofs.pens.return_by.Tie as tie
 
-opposite-requires : tie.Need-opposite-requires
-opposite-requires c κs = search needs
-
-circle-by-requires : tie.Need-circle-by-requires
-circle-by-requires c κs = search needs
-
 returns : tie.Need-returns
 returns c = let start = c .before .before .before in
     rw (
@@ -21,4 +15,4 @@ returns c = let start = c .before .before .before in
     )
 
 pub return-by-spec : {M : Type 1} → statement M
-return-by-spec = tie.close (tie.spec opposite-requires circle-by-requires returns)
+return-by-spec = tie.close (tie.spec (λ c κs. search needs) (λ c κs. search needs) returns)

@@ -3,9 +3,6 @@ use borrow.Author.Needs.{needs}
 use Rattle.moves.proofs.pens.return_used.Statement.{statement}
 use Rattle.moves.proofs.pens.return_used.Tie as tie
 
-opposite-requires : tie.Need-opposite-requires
-opposite-requires c κs = search needs
-
 turn-by-requires : tie.Need-turn-by-requires
 turn-by-requires c κs = c .before .before .before .pre (c .before .if1 .taken)
 
@@ -16,4 +13,4 @@ returns-2 : tie.Need-returns-2
 returns-2 c = rw (c .if1 .left)
 
 pub return-used-spec : {M : Type 1} → statement M
-return-used-spec = tie.close (tie.spec opposite-requires turn-by-requires returns returns-2)
+return-used-spec = tie.close (tie.spec (λ c κs. search needs) turn-by-requires returns returns-2)

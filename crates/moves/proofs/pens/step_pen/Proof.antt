@@ -41,12 +41,6 @@ turn-used-requires-3 c κs = λ used. inside-x _ _ (pattern-inside (c .before .b
 turn-used-requires-4 : tie.Need-turn-used-requires-4
 turn-used-requires-4 c κs = λ used. inside-y _ _ (pattern-inside (c .before .before .before) used)
 
-circle-by-requires : tie.Need-circle-by-requires
-circle-by-requires c κs = search needs
-
-circle-by-requires-2 : tie.Need-circle-by-requires-2
-circle-by-requires-2 c κs = search needs
-
 returns : tie.Need-returns
 unfolding pointStepped spotStepped penStepped
 returns c = let a = c .before .before .before .before .before .before .before .before .args in
@@ -83,6 +77,6 @@ step-pen-spec =
     turn-used-requires-2
     turn-used-requires-3
     turn-used-requires-4
-    circle-by-requires
-    circle-by-requires-2
+    (λ c κs. search needs)
+    (λ c κs. search needs)
     returns)

@@ -9,11 +9,5 @@ use Rattle.moves.proofs.turns.back_by.Tie as tie
 returns : tie.Need-returns
 returns c = sym (back-inside _ _ _ (c .if1 .taken) (omega arith))
 
-steps-back-requires : tie.Need-steps-back-requires
-steps-back-requires c κs = search needs
-
-returns-2 : tie.Need-returns-2
-returns-2 c = search needs
-
 pub back-by-spec : {M : Type 1} → statement M
-back-by-spec = tie.close (tie.spec returns steps-back-requires returns-2)
+back-by-spec = tie.close (tie.spec returns (λ c κs. search needs) (λ c. search needs))

@@ -12,9 +12,6 @@ use Rattle.moves.proofs.ways.block_way.Tie as tie
 add-t12 : tie.Need-add-t12
 add-t12 c = omega (arith, c .if1 .taken, c .before .struct-known .given)
 
-row-after-requires : tie.Need-row-after-requires
-row-after-requires c κs = search needs
-
 returns : tie.Need-returns
 unfolding wentBy columnPassed blockMoved
 returns c = rw (lt-ltb _ _ (c .before .if1 .taken), toZ-ofZ w32 (c .before .before .before .before .args .pen .e) (search needs))
@@ -24,4 +21,4 @@ unfolding wentBy blockMoved
 returns-2 c = rw (le-ltb _ _ (c .before .if1 .left), c .row-after .ensures)
 
 pub block-way-spec : {M : Type 1} → statement M
-block-way-spec = tie.close (tie.spec add-t12 row-after-requires returns returns-2)
+block-way-spec = tie.close (tie.spec add-t12 (λ c κs. search needs) returns returns-2)

@@ -6,12 +6,6 @@ use Rattle.moves.specs.Moves.{lineError}
 use Rattle.moves.proofs.ways.line_error.Statement.{statement}
 use Rattle.moves.proofs.ways.line_error.Tie as tie
 
-term-sum-requires : tie.Need-term-sum-requires
-term-sum-requires c κs = search needs
-
-term-sum-requires-2 : tie.Need-term-sum-requires-2
-term-sum-requires-2 c κs = search needs
-
 returns : tie.Need-returns
 unfolding lineError
 returns c =
@@ -31,4 +25,4 @@ returns-2 c =
     rw (rw e at (c .before .before .if1 .left), sum, c .term-sum2 .ensures, e, k2)
 
 pub line-error-spec : {M : Type 1} → statement M
-line-error-spec = tie.close (tie.spec term-sum-requires term-sum-requires-2 returns returns-2)
+line-error-spec = tie.close (tie.spec (λ c κs. search needs) (λ c κs. search needs) returns returns-2)

@@ -9,20 +9,8 @@ use borrow.Author.Needs.{needs}
 use Rattle.moves.proofs.ways.line_way.Statement.{statement}
 use Rattle.moves.proofs.ways.line_way.Tie as tie
 
-line-step-requires : tie.Need-line-step-requires
-line-step-requires c κs = search needs
-
-line-error-requires : tie.Need-line-error-requires
-line-error-requires c κs = search needs
-
 add-t9 : tie.Need-add-t9
 add-t9 c = omega (arith, c .before .before .before .before .if1 .taken, c .before .before .before .before .before .struct-known .given)
-
-rises-requires : tie.Need-rises-requires
-rises-requires c κs = search needs
-
-way-along-requires : tie.Need-way-along-requires
-way-along-requires c κs = search needs
 
 returns : tie.Need-returns
 unfolding wentBy penGone lineMoved
@@ -47,10 +35,10 @@ pub line-way-spec : {M : Type 1} → statement M
 line-way-spec =
     tie.close
     (tie.spec
-    line-step-requires
-    line-error-requires
+    (λ c κs. search needs)
+    (λ c κs. search needs)
     add-t9
-    rises-requires
-    way-along-requires
+    (λ c κs. search needs)
+    (λ c κs. search needs)
     returns
     returns-2)

@@ -7,18 +7,6 @@ use Rattle.moves.specs.Moves.{codePassed}
 use Rattle.moves.proofs.ways.pass_code.Statement.{statement}
 use Rattle.moves.proofs.ways.pass_code.Tie as tie
 
-add-if1 : tie.Need-add-if1
-add-if1 c = search needs
-
-add-following : tie.Need-add-following
-add-following c = search needs
-
-code-at-requires : tie.Need-code-at-requires
-code-at-requires c κs = search needs
-
-stops-requires : tie.Need-stops-requires
-stops-requires c κs = search needs
-
 returns : tie.Need-returns
 unfolding codePassed
 returns c = let at = c .before .before in
@@ -35,4 +23,4 @@ returns-3 c = rw (le-ltb _ _ (c .if1 .left))
 
 pub pass-code-spec : {M : Type 1} → statement M
 pass-code-spec =
-    tie.close (tie.spec add-if1 add-following code-at-requires stops-requires returns returns-2 returns-3)
+    tie.close (tie.spec (λ c. search needs) (λ c. search needs) (λ c κs. search needs) (λ c κs. search needs) returns returns-2 returns-3)

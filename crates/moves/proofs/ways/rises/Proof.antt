@@ -6,15 +6,9 @@ use borrow.Author.Needs.{needs}
 use Rattle.moves.proofs.ways.rises.Statement.{statement}
 use Rattle.moves.proofs.ways.rises.Tie as tie
 
-line-step-requires : tie.Need-line-step-requires
-line-step-requires c κs = search needs
-
-goes-up-requires : tie.Need-goes-up-requires
-goes-up-requires c κs = search needs
-
 returns : tie.Need-returns
 unfolding rises
 returns c = rw (c .before .goes-up .ensures, c .before .before .line-step .ensures, toZ-ofZ w32 (c .before .before .before .before .args .e) (search needs))
 
 pub rises-spec : {M : Type 1} → statement M
-rises-spec = tie.close (tie.spec line-step-requires goes-up-requires returns)
+rises-spec = tie.close (tie.spec (λ c κs. search needs) (λ c κs. search needs) returns)

@@ -18,18 +18,6 @@ x-of = choose-part (λ (s : Step). s .x)
 y-of : (t : Bool) (p q : Step) → choose t (p .y) (q .y) ≡ choose t p q .y
 y-of = choose-part (λ (s : Step). s .y)
 
-turn-in-requires : tie.Need-turn-in-requires
-turn-in-requires c κs = search needs
-
-turn-in-requires-2 : tie.Need-turn-in-requires-2
-turn-in-requires-2 c κs = search needs
-
-turn-in-requires-3 : tie.Need-turn-in-requires-3
-turn-in-requires-3 c κs = search needs
-
-turn-in-requires-4 : tie.Need-turn-in-requires-4
-turn-in-requires-4 c κs = search needs
-
 returns : tie.Need-returns
 unfolding sourceBy destinationBy
 returns c = let a = c .before .before .before .before .args in
@@ -47,4 +35,4 @@ returns c = let a = c .before .before .before .before .args in
 pub way-along-spec : {M : Type 1} → statement M
 way-along-spec =
     tie.close
-    (tie.spec turn-in-requires turn-in-requires-2 turn-in-requires-3 turn-in-requires-4 returns)
+    (tie.spec (λ c κs. search needs) (λ c κs. search needs) (λ c κs. search needs) (λ c κs. search needs) returns)

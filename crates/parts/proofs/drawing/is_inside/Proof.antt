@@ -7,15 +7,6 @@ use Rattle.parts.proofs.drawing.is_inside.Tie as tie
 enum-told : tie.Need-enum-told
 enum-told c = search needs
 
-enum-told-2 : tie.Need-enum-told-2
-enum-told-2 c = search needs
-
-enum-told-3 : tie.Need-enum-told-3
-enum-told-3 c = search needs
-
-enum-known-drawing : tie.Need-enum-known-drawing
-enum-known-drawing c = search needs
-
 returns : tie.Need-returns
 unfolding insideOf
 returns c = rw (c .enum-told .given .1)
@@ -37,9 +28,9 @@ is-inside-spec =
     tie.close
     (tie.spec
     enum-told
-    enum-told-2
-    enum-told-3
-    enum-known-drawing
+    (λ c. search needs)
+    (λ c. search needs)
+    (λ c. search needs)
     returns
     returns-2
     returns-3

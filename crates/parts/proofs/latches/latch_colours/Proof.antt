@@ -6,24 +6,6 @@ use borrow.Author.Needs.{needs}
 use Rattle.parts.proofs.latches.latch_colours.Statement.{statement}
 use Rattle.parts.proofs.latches.latch_colours.Tie as tie
 
-touches-requires : tie.Need-touches-requires
-touches-requires c κs = search needs
-
-latch-ink-requires : tie.Need-latch-ink-requires
-latch-ink-requires c κs = search needs
-
-latch-ink-requires-2 : tie.Need-latch-ink-requires-2
-latch-ink-requires-2 c κs = search needs
-
-latch-compare-requires : tie.Need-latch-compare-requires
-latch-compare-requires c κs = search needs
-
-take-word-requires : tie.Need-take-word-requires
-take-word-requires c κs = search needs
-
-take-word-requires-2 : tie.Need-take-word-requires-2
-take-word-requires-2 c κs = search needs
-
 returns : tie.Need-returns
 unfolding coloursLatched
 returns c =
@@ -43,11 +25,11 @@ pub latch-colours-spec : {M : Type 1} → statement M
 latch-colours-spec =
     tie.close
     (tie.spec
-    touches-requires
-    latch-ink-requires
-    latch-ink-requires-2
-    latch-compare-requires
-    take-word-requires
-    take-word-requires-2
+    (λ c κs. search needs)
+    (λ c κs. search needs)
+    (λ c κs. search needs)
+    (λ c κs. search needs)
+    (λ c κs. search needs)
+    (λ c κs. search needs)
     returns
     returns-2)

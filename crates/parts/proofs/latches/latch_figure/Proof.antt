@@ -4,18 +4,6 @@ use borrow.Author.Needs.{needs}
 use Rattle.parts.proofs.latches.latch_figure.Statement.{statement}
 use Rattle.parts.proofs.latches.latch_figure.Tie as tie
 
-take-word-requires : tie.Need-take-word-requires
-take-word-requires c κs = search needs
-
-take-word-requires-2 : tie.Need-take-word-requires-2
-take-word-requires-2 c κs = search needs
-
-latch-point-requires : tie.Need-latch-point-requires
-latch-point-requires c κs = search needs
-
-latch-point-requires-2 : tie.Need-latch-point-requires-2
-latch-point-requires-2 c κs = search needs
-
 returns : tie.Need-returns
 unfolding figureLatched
 returns c =
@@ -31,8 +19,8 @@ pub latch-figure-spec : {M : Type 1} → statement M
 latch-figure-spec =
     tie.close
     (tie.spec
-    take-word-requires
-    take-word-requires-2
-    latch-point-requires
-    latch-point-requires-2
+    (λ c κs. search needs)
+    (λ c κs. search needs)
+    (λ c κs. search needs)
+    (λ c κs. search needs)
     returns)

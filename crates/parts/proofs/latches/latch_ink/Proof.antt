@@ -4,15 +4,9 @@ use Rattle.parts.specs.Latches.{inkLatched}
 use Rattle.parts.proofs.latches.latch_ink.Statement.{statement}
 use Rattle.parts.proofs.latches.latch_ink.Tie as tie
 
-take-byte-requires : tie.Need-take-byte-requires
-take-byte-requires c κs = search needs
-
-take-word-requires : tie.Need-take-word-requires
-take-word-requires c κs = search needs
-
 returns : tie.Need-returns
 unfolding inkLatched
 returns c = λ i. record { mix = c .before .take-byte .ensures i; colour = c .take-word .ensures i }
 
 pub latch-ink-spec : {M : Type 1} → statement M
-latch-ink-spec = tie.close (tie.spec take-byte-requires take-word-requires returns)
+latch-ink-spec = tie.close (tie.spec (λ c κs. search needs) (λ c κs. search needs) returns)

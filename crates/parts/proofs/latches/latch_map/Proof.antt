@@ -6,21 +6,6 @@ use borrow.Author.Needs.{needs}
 use Rattle.parts.proofs.latches.latch_map.Statement.{statement}
 use Rattle.parts.proofs.latches.latch_map.Tie as tie
 
-touches-requires : tie.Need-touches-requires
-touches-requires c κs = search needs
-
-take-word-requires : tie.Need-take-word-requires
-take-word-requires c κs = search needs
-
-take-twelve-bits-requires : tie.Need-take-twelve-bits-requires
-take-twelve-bits-requires c κs = search needs
-
-take-twelve-bits-requires-2 : tie.Need-take-twelve-bits-requires-2
-take-twelve-bits-requires-2 c κs = search needs
-
-take-bits-requires : tie.Need-take-bits-requires
-take-bits-requires c κs = search needs
-
 returns : tie.Need-returns
 unfolding mapLatched
 returns c =
@@ -39,10 +24,10 @@ pub latch-map-spec : {M : Type 1} → statement M
 latch-map-spec =
     tie.close
     (tie.spec
-    touches-requires
-    take-word-requires
-    take-twelve-bits-requires
-    take-twelve-bits-requires-2
-    take-bits-requires
+    (λ c κs. search needs)
+    (λ c κs. search needs)
+    (λ c κs. search needs)
+    (λ c κs. search needs)
+    (λ c κs. search needs)
     returns
     returns-2)

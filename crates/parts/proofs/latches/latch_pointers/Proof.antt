@@ -6,18 +6,6 @@ use borrow.Author.Needs.{needs}
 use Rattle.parts.proofs.latches.latch_pointers.Statement.{statement}
 use Rattle.parts.proofs.latches.latch_pointers.Tie as tie
 
-touches-requires : tie.Need-touches-requires
-touches-requires c κs = search needs
-
-latch-point-requires : tie.Need-latch-point-requires
-latch-point-requires c κs = search needs
-
-latch-point-requires-2 : tie.Need-latch-point-requires-2
-latch-point-requires-2 c κs = search needs
-
-latch-spot-requires : tie.Need-latch-spot-requires
-latch-spot-requires c κs = search needs
-
 returns : tie.Need-returns
 unfolding pointersLatched
 returns c = λ i. record {
@@ -34,9 +22,9 @@ pub latch-pointers-spec : {M : Type 1} → statement M
 latch-pointers-spec =
     tie.close
     (tie.spec
-    touches-requires
-    latch-point-requires
-    latch-point-requires-2
-    latch-spot-requires
+    (λ c κs. search needs)
+    (λ c κs. search needs)
+    (λ c κs. search needs)
+    (λ c κs. search needs)
     returns
     returns-2)

@@ -4,21 +4,6 @@ use borrow.Author.Needs.{needs}
 use Rattle.parts.proofs.latches.latch_registers.Statement.{statement}
 use Rattle.parts.proofs.latches.latch_registers.Tie as tie
 
-take-bits-requires : tie.Need-take-bits-requires
-take-bits-requires c κs = search needs
-
-latch-terms-requires : tie.Need-latch-terms-requires
-latch-terms-requires c κs = search needs
-
-latch-colours-requires : tie.Need-latch-colours-requires
-latch-colours-requires c κs = search needs
-
-latch-figure-requires : tie.Need-latch-figure-requires
-latch-figure-requires c κs = search needs
-
-latch-pointers-requires : tie.Need-latch-pointers-requires
-latch-pointers-requires c κs = search needs
-
 returns : tie.Need-returns
 unfolding registersLatched
 returns c =
@@ -35,9 +20,9 @@ pub latch-registers-spec : {M : Type 1} → statement M
 latch-registers-spec =
     tie.close
     (tie.spec
-    take-bits-requires
-    latch-terms-requires
-    latch-colours-requires
-    latch-figure-requires
-    latch-pointers-requires
+    (λ c κs. search needs)
+    (λ c κs. search needs)
+    (λ c κs. search needs)
+    (λ c κs. search needs)
+    (λ c κs. search needs)
     returns)

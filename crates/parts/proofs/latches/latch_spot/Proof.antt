@@ -8,12 +8,6 @@ use Rattle.parts.proofs.SignedFields.{field-answer}
 use Rattle.parts.proofs.latches.latch_spot.Statement.{statement}
 use Rattle.parts.proofs.latches.latch_spot.Tie as tie
 
-take-destination-requires : tie.Need-take-destination-requires
-take-destination-requires c κs = search needs
-
-take-destination-requires-2 : tie.Need-take-destination-requires-2
-take-destination-requires-2 c κs = search needs
-
 returns : tie.Need-returns
 unfolding spotLatched
 returns c =
@@ -26,4 +20,4 @@ returns c =
 
 pub latch-spot-spec : {M : Type 1} → statement M
 latch-spot-spec =
-    tie.close (tie.spec take-destination-requires take-destination-requires-2 returns)
+    tie.close (tie.spec (λ c κs. search needs) (λ c κs. search needs) returns)

@@ -10,18 +10,6 @@ use borrow.Author.Needs.{needs}
 use Rattle.parts.proofs.latches.latch_terms.Statement.{statement}
 use Rattle.parts.proofs.latches.latch_terms.Tie as tie
 
-touches-requires : tie.Need-touches-requires
-touches-requires c κs = search needs
-
-take-term-requires : tie.Need-take-term-requires
-take-term-requires c κs = search needs
-
-take-term-requires-2 : tie.Need-take-term-requires-2
-take-term-requires-2 c κs = search needs
-
-take-term-requires-3 : tie.Need-take-term-requires-3
-take-term-requires-3 c κs = search needs
-
 returns : tie.Need-returns
 unfolding termsLatched
 returns c =
@@ -43,9 +31,9 @@ pub latch-terms-spec : {M : Type 1} → statement M
 latch-terms-spec =
     tie.close
     (tie.spec
-    touches-requires
-    take-term-requires
-    take-term-requires-2
-    take-term-requires-3
+    (λ c κs. search needs)
+    (λ c κs. search needs)
+    (λ c κs. search needs)
+    (λ c κs. search needs)
     returns
     returns-2)

@@ -4,18 +4,6 @@ use borrow.Author.Needs.{needs}
 use Rattle.parts.proofs.reduced.registers_are_reduced.Statement.{statement}
 use Rattle.parts.proofs.reduced.registers_are_reduced.Tie as tie
 
-terms-are-reduced-requires : tie.Need-terms-are-reduced-requires
-terms-are-reduced-requires c κs = search needs
-
-colours-are-reduced-requires : tie.Need-colours-are-reduced-requires
-colours-are-reduced-requires c κs = search needs
-
-figure-is-reduced-requires : tie.Need-figure-is-reduced-requires
-figure-is-reduced-requires c κs = search needs
-
-pointers-are-reduced-requires : tie.Need-pointers-are-reduced-requires
-pointers-are-reduced-requires c κs = search needs
-
 returns : tie.Need-returns
 unfolding registersReduced
 returns c =
@@ -30,8 +18,8 @@ pub registers-are-reduced-spec : {M : Type 1} → statement M
 registers-are-reduced-spec =
     tie.close
     (tie.spec
-    terms-are-reduced-requires
-    colours-are-reduced-requires
-    figure-is-reduced-requires
-    pointers-are-reduced-requires
+    (λ c κs. search needs)
+    (λ c κs. search needs)
+    (λ c κs. search needs)
+    (λ c κs. search needs)
     returns)

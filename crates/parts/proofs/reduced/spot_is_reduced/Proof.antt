@@ -6,12 +6,6 @@ use borrow.Author.Needs.{needs}
 use Rattle.parts.proofs.reduced.spot_is_reduced.Statement.{statement}
 use Rattle.parts.proofs.reduced.spot_is_reduced.Tie as tie
 
-destination-is-reduced-requires : tie.Need-destination-is-reduced-requires
-destination-is-reduced-requires c κs = search needs
-
-destination-is-reduced-requires-2 : tie.Need-destination-is-reduced-requires-2
-destination-is-reduced-requires-2 c κs = search needs
-
 returns : tie.Need-returns
 unfolding spotReduced
 returns c =
@@ -25,4 +19,4 @@ returns c =
 
 pub spot-is-reduced-spec : {M : Type 1} → statement M
 spot-is-reduced-spec =
-    tie.close (tie.spec destination-is-reduced-requires destination-is-reduced-requires-2 returns)
+    tie.close (tie.spec (λ c κs. search needs) (λ c κs. search needs) returns)

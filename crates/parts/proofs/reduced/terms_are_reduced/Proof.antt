@@ -6,15 +6,6 @@ use borrow.Author.Needs.{needs}
 use Rattle.parts.proofs.reduced.terms_are_reduced.Statement.{statement}
 use Rattle.parts.proofs.reduced.terms_are_reduced.Tie as tie
 
-term-is-reduced-requires : tie.Need-term-is-reduced-requires
-term-is-reduced-requires c κs = search needs
-
-term-is-reduced-requires-2 : tie.Need-term-is-reduced-requires-2
-term-is-reduced-requires-2 c κs = search needs
-
-term-is-reduced-requires-3 : tie.Need-term-is-reduced-requires-3
-term-is-reduced-requires-3 c κs = search needs
-
 returns : tie.Need-returns
 unfolding termsReduced
 returns c =
@@ -32,7 +23,7 @@ pub terms-are-reduced-spec : {M : Type 1} → statement M
 terms-are-reduced-spec =
     tie.close
     (tie.spec
-    term-is-reduced-requires
-    term-is-reduced-requires-2
-    term-is-reduced-requires-3
+    (λ c κs. search needs)
+    (λ c κs. search needs)
+    (λ c κs. search needs)
     returns)

@@ -4,11 +4,8 @@ use Rattle.parts.proofs.RefusalLaws.{number-accepted}
 use Rattle.parts.proofs.refusals.accepts.Statement.{statement}
 use Rattle.parts.proofs.refusals.accepts.Tie as tie
 
-number-requires : tie.Need-number-requires
-number-requires c κs = search needs
-
 returns : tie.Need-returns
 returns c = rw (c .number .ensures) (number-accepted (c .before .args .refusal))
 
 pub accepts-spec : {M : Type 1} → statement M
-accepts-spec = tie.close (tie.spec number-requires returns)
+accepts-spec = tie.close (tie.spec (λ c κs. search needs) returns)

@@ -7,17 +7,11 @@ use Rattle.numbers.proofs.Fields.{one-shl}
 use Rattle.parts.proofs.registers.all_set.Statement.{statement}
 use Rattle.parts.proofs.registers.all_set.Tie as tie
 
-shl-ones : tie.Need-shl-ones
-shl-ones c = search needs
-
 sub-ones : tie.Need-sub-ones
 sub-ones c = omega (arith, one-shl (c .args .count) 64 (omega arith), pow-pos (c .args .count))
-
-shr-result : tie.Need-shr-result
-shr-result c = search needs
 
 returns : tie.Need-returns
 returns c = rw (one-shl (c .args .count) 64 (omega arith), and-mask)
 
 pub all-set-spec : {M : Type 1} → statement M
-all-set-spec = tie.close (tie.spec shl-ones sub-ones shr-result returns)
+all-set-spec = tie.close (tie.spec (λ c. search needs) sub-ones (λ c. search needs) returns)

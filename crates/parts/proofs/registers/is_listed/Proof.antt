@@ -9,12 +9,6 @@ use Rattle.parts.proofs.RegisterLaws.{agrees, half-listed}
 use Rattle.parts.proofs.registers.is_listed.Statement.{statement}
 use Rattle.parts.proofs.registers.is_listed.Tie as tie
 
-all-set-requires : tie.Need-all-set-requires
-all-set-requires c κs = search needs
-
-all-set-requires-2 : tie.Need-all-set-requires-2
-all-set-requires-2 c κs = search needs
-
 returns : tie.Need-returns
 unfolding selected others registers among listed every agrees
 returns c =
@@ -28,4 +22,4 @@ returns-2 c =
     c .all-set2 .ensures ∙ half-listed _ 64 refl (at .offset - 64) (at .length) (at .offset) (omega arith) (omega arith) (omega arith)
 
 pub is-listed-spec : {M : Type 1} → statement M
-is-listed-spec = tie.close (tie.spec all-set-requires all-set-requires-2 returns returns-2)
+is-listed-spec = tie.close (tie.spec (λ c κs. search needs) (λ c κs. search needs) returns returns-2)

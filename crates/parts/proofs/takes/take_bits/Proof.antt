@@ -5,15 +5,6 @@ use Rattle.parts.specs.Takes.{taken}
 use Rattle.parts.proofs.takes.take_bits.Statement.{statement}
 use Rattle.parts.proofs.takes.take_bits.Tie as tie
 
-touches-requires : tie.Need-touches-requires
-touches-requires c κs = search needs
-
-latch1-requires : tie.Need-latch1-requires
-latch1-requires c κs = search needs
-
-low-bits-requires : tie.Need-low-bits-requires
-low-bits-requires c κs = search needs
-
 returns : tie.Need-returns
 unfolding taken
 returns c =
@@ -25,4 +16,4 @@ returns-2 c = simp (sym (c .before .touches .ensures) ∙ c .if1 .left)
 
 pub take-bits-spec : {M : Type 1} → statement M
 take-bits-spec =
-    tie.close (tie.spec touches-requires latch1-requires low-bits-requires returns returns-2)
+    tie.close (tie.spec (λ c κs. search needs) (λ c κs. search needs) (λ c κs. search needs) returns returns-2)

@@ -7,18 +7,6 @@ use Rattle.parts.specs.Takes.{takenOnto}
 use Rattle.parts.proofs.takes.take_term.Statement.{statement}
 use Rattle.parts.proofs.takes.take_term.Tie as tie
 
-touches-requires : tie.Need-touches-requires
-touches-requires c κs = search needs
-
-word-requires : tie.Need-word-requires
-word-requires c κs = search needs
-
-latch4-requires : tie.Need-latch4-requires
-latch4-requires c κs = search needs
-
-term-requires : tie.Need-term-requires
-term-requires c κs = search needs
-
 returns : tie.Need-returns
 unfolding takenOnto
 returns c =
@@ -39,4 +27,4 @@ returns-2 c =
 pub take-term-spec : {M : Type 1} → statement M
 take-term-spec =
     tie.close
-    (tie.spec touches-requires word-requires latch4-requires term-requires returns returns-2)
+    (tie.spec (λ c κs. search needs) (λ c κs. search needs) (λ c κs. search needs) (λ c κs. search needs) returns returns-2)

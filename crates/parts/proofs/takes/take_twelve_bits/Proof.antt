@@ -5,18 +5,6 @@ use Rattle.parts.specs.Takes.{taken}
 use Rattle.parts.proofs.takes.take_twelve_bits.Statement.{statement}
 use Rattle.parts.proofs.takes.take_twelve_bits.Tie as tie
 
-touches-requires : tie.Need-touches-requires
-touches-requires c κs = search needs
-
-latch2-requires : tie.Need-latch2-requires
-latch2-requires c κs = search needs
-
-cast-twelve-bits : tie.Need-cast-twelve-bits
-cast-twelve-bits c = search needs
-
-twelve-bits-requires : tie.Need-twelve-bits-requires
-twelve-bits-requires c κs = search needs
-
 returns : tie.Need-returns
 unfolding taken
 returns c =
@@ -30,9 +18,9 @@ pub take-twelve-bits-spec : {M : Type 1} → statement M
 take-twelve-bits-spec =
     tie.close
     (tie.spec
-    touches-requires
-    latch2-requires
-    cast-twelve-bits
-    twelve-bits-requires
+    (λ c κs. search needs)
+    (λ c κs. search needs)
+    (λ c. search needs)
+    (λ c κs. search needs)
     returns
     returns-2)

@@ -5,12 +5,6 @@ use Rattle.parts.specs.Takes.{taken}
 use Rattle.parts.proofs.takes.take_word.Statement.{statement}
 use Rattle.parts.proofs.takes.take_word.Tie as tie
 
-touches-requires : tie.Need-touches-requires
-touches-requires c κs = search needs
-
-latch4-requires : tie.Need-latch4-requires
-latch4-requires c κs = search needs
-
 returns : tie.Need-returns
 unfolding taken
 returns c = simp (sym (c .before .before .touches .ensures) ∙ c .before .if1 .taken) (c .latch4 .ensures)
@@ -20,4 +14,4 @@ unfolding taken
 returns-2 c = simp (sym (c .before .touches .ensures) ∙ c .if1 .left)
 
 pub take-word-spec : {M : Type 1} → statement M
-take-word-spec = tie.close (tie.spec touches-requires latch4-requires returns returns-2)
+take-word-spec = tie.close (tie.spec (λ c κs. search needs) (λ c κs. search needs) returns returns-2)

@@ -5,18 +5,6 @@ use Rattle.parts.specs.Takes.{touched}
 use Rattle.parts.proofs.takes.touches.Statement.{statement}
 use Rattle.parts.proofs.takes.touches.Tie as tie
 
-cast-offset : tie.Need-cast-offset
-cast-offset c = search needs
-
-cast-length : tie.Need-cast-length
-cast-length c = search needs
-
-add-if1 : tie.Need-add-if1
-add-if1 c = search needs
-
-add-result : tie.Need-add-result
-add-result c = search needs
-
 returns : tie.Need-returns
 unfolding touched
 returns c = simp (lt-ltb _ _ (c .if1 .taken))
@@ -26,4 +14,4 @@ unfolding touched
 returns-2 c = simp (le-ltb _ _ (c .if1 .left))
 
 pub touches-spec : {M : Type 1} → statement M
-touches-spec = tie.close (tie.spec cast-offset cast-length add-if1 add-result returns returns-2)
+touches-spec = tie.close (tie.spec (λ c. search needs) (λ c. search needs) (λ c. search needs) (λ c. search needs) returns returns-2)

@@ -3,14 +3,8 @@ use borrow.Author.Needs.{needs}
 use Rattle.places.proofs.modes.code_bounds.Statement.{statement}
 use Rattle.places.proofs.modes.code_bounds.Tie as tie
 
-code-step-requires : tie.Need-code-step-requires
-code-step-requires c κs = search needs
-
-of-run-requires : tie.Need-of-run-requires
-of-run-requires c κs = search needs
-
 returns : tie.Need-returns
 returns c = rw (c .of-run .ensures, c .before .code-step .ensures)
 
 pub code-bounds-spec : {M : Type 1} → statement M
-code-bounds-spec = tie.close (tie.spec code-step-requires of-run-requires returns)
+code-bounds-spec = tie.close (tie.spec (λ c κs. search needs) (λ c κs. search needs) returns)

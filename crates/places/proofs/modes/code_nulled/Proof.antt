@@ -7,12 +7,6 @@ use borrow.Author.Needs.{needs}
 use Rattle.places.proofs.modes.code_nulled.Statement.{statement}
 use Rattle.places.proofs.modes.code_nulled.Tie as tie
 
-steps-of-requires : tie.Need-steps-of-requires
-steps-of-requires c κs = search needs
-
-code-bounds-requires : tie.Need-code-bounds-requires
-code-bounds-requires c κs = search needs
-
 returns : tie.Need-returns
 unfolding nulledBy isFirst
 returns c = λ e count i same. sym (first-null _ _ _ _ (c .match .keys1))
@@ -31,4 +25,4 @@ unfolding nulledBy
 returns-4 c = λ e count i same. sym (no-null _ _ _ _ (c .match .rest .0 .0 .1) (c .match .rest .0 .1) (c .match .rest .1))
 
 pub code-nulled-spec : {M : Type 1} → statement M
-code-nulled-spec = tie.close (tie.spec steps-of-requires code-bounds-requires returns returns-2 returns-3 returns-4)
+code-nulled-spec = tie.close (tie.spec (λ c κs. search needs) (λ c κs. search needs) returns returns-2 returns-3 returns-4)

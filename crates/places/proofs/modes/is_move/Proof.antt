@@ -3,14 +3,8 @@ use borrow.Author.Needs.{needs}
 use Rattle.places.proofs.modes.is_move.Statement.{statement}
 use Rattle.places.proofs.modes.is_move.Tie as tie
 
-are-codes-requires : tie.Need-are-codes-requires
-are-codes-requires c κs = search needs
-
-only-moves-requires : tie.Need-only-moves-requires
-only-moves-requires c κs = search needs
-
 returns : tie.Need-returns
 returns c = rw (c .only-moves .ensures, c .before .are-codes .ensures)
 
 pub is-move-spec : {M : Type 1} → statement M
-is-move-spec = tie.close (tie.spec are-codes-requires only-moves-requires returns)
+is-move-spec = tie.close (tie.spec (λ c κs. search needs) (λ c κs. search needs) returns)

@@ -6,15 +6,6 @@ use borrow.Author.Needs.{needs}
 use Rattle.places.proofs.modes.line_bounds.Statement.{statement}
 use Rattle.places.proofs.modes.line_bounds.Tie as tie
 
-line-step-requires : tie.Need-line-step-requires
-line-step-requires c κs = search needs
-
-moves-row-requires : tie.Need-moves-row-requires
-moves-row-requires c κs = search needs
-
-of-run-requires : tie.Need-of-run-requires
-of-run-requires c κs = search needs
-
 returns : tie.Need-returns
 unfolding isLast onBoundary
 returns c = let step = c .before .before .before in
@@ -27,4 +18,4 @@ returns c = let step = c .before .before .before in
 
 pub line-bounds-spec : {M : Type 1} → statement M
 line-bounds-spec =
-    tie.close (tie.spec line-step-requires moves-row-requires of-run-requires returns)
+    tie.close (tie.spec (λ c κs. search needs) (λ c κs. search needs) (λ c κs. search needs) returns)

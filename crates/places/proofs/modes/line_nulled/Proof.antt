@@ -11,9 +11,6 @@ use borrow.Author.Needs.{needs}
 use Rattle.places.proofs.modes.line_nulled.Statement.{statement}
 use Rattle.places.proofs.modes.line_nulled.Tie as tie
 
-line-bounds-requires : tie.Need-line-bounds-requires
-line-bounds-requires c κs = search needs
-
 returns : tie.Need-returns
 unfolding nulledBy isFirst
 returns c = sym (first-null _ _ _ _ (c .match .keys1))
@@ -34,4 +31,4 @@ unfolding nulledBy
 returns-4 c = sym (no-null _ _ _ _ (c .match .rest .0 .0 .1) (c .match .rest .0 .1) (c .match .rest .1))
 
 pub line-nulled-spec : {M : Type 1} → statement M
-line-nulled-spec = tie.close (tie.spec line-bounds-requires returns returns-2 returns-3 returns-4)
+line-nulled-spec = tie.close (tie.spec (λ c κs. search needs) returns returns-2 returns-3 returns-4)

@@ -6,9 +6,6 @@ use Rattle.places.proofs.Columns.{answered, below, natural-from, column
 use Rattle.places.proofs.places.column_of.Statement.{statement}
 use Rattle.places.proofs.places.column_of.Tie as tie
 
-place-from-requires : tie.Need-place-from-requires
-place-from-requires c κs = search needs
-
 cast-result : tie.Need-cast-result
 cast-result c =
     let s = c .before .before .fits in
@@ -28,4 +25,4 @@ returns-2 c =
     rw (answered (s .z) (s .origin) place, natural-from (s .z) (s .origin) place (c .if1 .left))
 
 pub column-of-spec : {M : Type 1} → statement M
-column-of-spec = tie.close (tie.spec place-from-requires cast-result returns returns-2)
+column-of-spec = tie.close (tie.spec (λ c κs. search needs) cast-result returns returns-2)

@@ -8,15 +8,6 @@ use borrow.Author.Needs.{needs}
 use Rattle.places.proofs.places.destination_of.Statement.{statement}
 use Rattle.places.proofs.places.destination_of.Tie as tie
 
-place-x-requires : tie.Need-place-x-requires
-place-x-requires c κs = search needs
-
-column-of-requires : tie.Need-column-of-requires
-column-of-requires c κs = search needs
-
-column-of-requires-2 : tie.Need-column-of-requires-2
-column-of-requires-2 c κs = search needs
-
 returns : tie.Need-returns
 returns c =
     let a = c .before .before .before .before .args in
@@ -29,4 +20,4 @@ returns c =
 
 pub destination-of-spec : {M : Type 1} → statement M
 destination-of-spec =
-    tie.close (tie.spec place-x-requires column-of-requires column-of-requires-2 returns)
+    tie.close (tie.spec (λ c κs. search needs) (λ c κs. search needs) (λ c κs. search needs) returns)

@@ -12,15 +12,6 @@ returns : tie.Need-returns
 unfolding inMask
 returns c = rw (eq-eqb _ _ (c .if1 .taken))
 
-place-x-requires : tie.Need-place-x-requires
-place-x-requires c κs = search needs
-
-is-within-requires : tie.Need-is-within-requires
-is-within-requires c κs = search needs
-
-is-within-requires-2 : tie.Need-is-within-requires-2
-is-within-requires-2 c κs = search needs
-
 returns-2 : tie.Need-returns-2
 unfolding maskX maskY inMask
 returns-2 c =
@@ -39,7 +30,7 @@ in-mask-spec =
     tie.close
     (tie.spec
     returns
-    place-x-requires
-    is-within-requires
-    is-within-requires-2
+    (λ c κs. search needs)
+    (λ c κs. search needs)
+    (λ c κs. search needs)
     returns-2)

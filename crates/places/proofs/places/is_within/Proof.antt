@@ -7,12 +7,6 @@ use Rattle.places.proofs.Columns.{within-tests, answered}
 use Rattle.places.proofs.places.is_within.Statement.{statement}
 use Rattle.places.proofs.places.is_within.Tie as tie
 
-place-from-requires : tie.Need-place-from-requires
-place-from-requires c κs = search needs
-
-cast-result : tie.Need-cast-result
-cast-result c = search needs
-
 returns : tie.Need-returns
 returns c =
     let s = c .before .fits in
@@ -20,4 +14,4 @@ returns c =
     rw (answered (s .z) (s .origin) (c .place-from .ensures), toZ-pos w32 last (omega (arith, s .last .fits))) (within-tests last _)
 
 pub is-within-spec : {M : Type 1} → statement M
-is-within-spec = tie.close (tie.spec place-from-requires cast-result returns)
+is-within-spec = tie.close (tie.spec (λ c κs. search needs) (λ c. search needs) returns)

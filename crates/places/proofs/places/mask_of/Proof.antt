@@ -7,15 +7,6 @@ use borrow.Author.Needs.{needs}
 use Rattle.places.proofs.places.mask_of.Statement.{statement}
 use Rattle.places.proofs.places.mask_of.Tie as tie
 
-place-x-requires : tie.Need-place-x-requires
-place-x-requires c κs = search needs
-
-column-of-requires : tie.Need-column-of-requires
-column-of-requires c κs = search needs
-
-column-of-requires-2 : tie.Need-column-of-requires-2
-column-of-requires-2 c κs = search needs
-
 returns : tie.Need-returns
 unfolding maskX maskY
 returns c =
@@ -28,4 +19,4 @@ returns c =
 
 pub mask-of-spec : {M : Type 1} → statement M
 mask-of-spec =
-    tie.close (tie.spec place-x-requires column-of-requires column-of-requires-2 returns)
+    tie.close (tie.spec (λ c κs. search needs) (λ c κs. search needs) (λ c κs. search needs) returns)

@@ -8,15 +8,6 @@ use borrow.Author.Needs.{needs}
 use Rattle.places.proofs.places.on_map.Statement.{statement}
 use Rattle.places.proofs.places.on_map.Tie as tie
 
-place-x-requires : tie.Need-place-x-requires
-place-x-requires c κs = search needs
-
-is-within-requires : tie.Need-is-within-requires
-is-within-requires c κs = search needs
-
-is-within-requires-2 : tie.Need-is-within-requires-2
-is-within-requires-2 c κs = search needs
-
 returns : tie.Need-returns
 unfolding onMap
 returns c =
@@ -34,4 +25,4 @@ returns c =
 pub on-map-spec : {M : Type 1} → statement M
 on-map-spec =
     tie.close
-    (tie.spec place-x-requires is-within-requires is-within-requires-2 returns)
+    (tie.spec (λ c κs. search needs) (λ c κs. search needs) (λ c κs. search needs) returns)

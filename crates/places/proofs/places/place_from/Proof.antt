@@ -9,9 +9,6 @@ use Rattle.places.proofs.places.place_from.Tie as tie
 cast-result : tie.Need-cast-result
 cast-result c = rw (toZ-ofZ w16 _ (c .fits .z)) (widened (c .fits .z))
 
-cast-result-2 : tie.Need-cast-result-2
-cast-result-2 c = search needs
-
 sub-result : tie.Need-sub-result
 sub-result c = rw (placed (c .fits .z) (c .fits .origin)) (place-fits (c .fits .z) (c .fits .origin))
 
@@ -19,4 +16,4 @@ returns : tie.Need-returns
 returns c = read-back (c .fits .z) (c .fits .origin) (placed (c .fits .z) (c .fits .origin))
 
 pub place-from-spec : {M : Type 1} → statement M
-place-from-spec = tie.close (tie.spec cast-result cast-result-2 sub-result returns)
+place-from-spec = tie.close (tie.spec cast-result (λ c. search needs) sub-result returns)

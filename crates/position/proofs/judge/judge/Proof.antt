@@ -28,9 +28,6 @@ condition c memory pen seen =
     let off = sym (seen .zero free) ∙ c .before .if2 .left in
     rw (open-fate _ memory pen free, off, c .is-compared .ensures, seen .target free off .pixel)
 
-is-painted-requires : tie.Need-is-painted-requires
-is-painted-requires c κs = search needs
-
 returns : tie.Need-returns
 returns c = λ memory pen seen. seen .foreseen ∙ sym (closed-fate _ memory pen (foreseen (c .before) memory pen seen ∙ not-true _ (c .if1 .taken)))
 
@@ -38,9 +35,6 @@ returns-2 : tie.Need-returns-2
 returns-2 c = λ memory pen seen.
     let free = foreseen (c .before .before) memory pen seen ∙ not-false _ (c .before .if1 .left) in
     rw (open-fate _ memory pen free, sym (seen .zero free) ∙ c .if2 .taken)
-
-is-compared-requires : tie.Need-is-compared-requires
-is-compared-requires c κs = search needs
 
 returns-3 : tie.Need-returns-3
 returns-3 c = λ memory pen seen. rw (condition (c .before) memory pen seen, c .if3 .taken)
@@ -51,4 +45,4 @@ returns-4 c = λ memory pen seen. rw (condition (c .before) memory pen seen, c .
 pub judge-spec : {M : Type 1} → statement M
 judge-spec =
     tie.close
-    (tie.spec is-painted-requires returns returns-2 is-compared-requires returns-3 returns-4)
+    (tie.spec (λ c κs. search needs) returns returns-2 (λ c κs. search needs) returns-3 returns-4)

@@ -9,9 +9,6 @@ returns : tie.Need-returns
 unfolding onZero
 returns c = rw (ne-eqb _ _ (c .if1 .taken))
 
-mask-of-requires : tie.Need-mask-of-requires
-mask-of-requires c κs = search needs
-
 get-requires : tie.Need-get-requires
 get-requires c κs = let pre = c .before .before .before .before .pre in
     rw (c .mask-of .ensures .0, c .mask-of .ensures .1) (pre .0 .mask (pre .1) (pre .2) (c .before .if1 .left))
@@ -21,4 +18,4 @@ unfolding onZero
 returns-2 c = rw (eq-eqb _ _ (c .before .before .if1 .left), c .get .ensures, c .before .mask-of .ensures .0, c .before .mask-of .ensures .1)
 
 pub is-on-zero-spec : {M : Type 1} → statement M
-is-on-zero-spec = tie.close (tie.spec returns mask-of-requires get-requires returns-2)
+is-on-zero-spec = tie.close (tie.spec returns (λ c κs. search needs) get-requires returns-2)

@@ -19,9 +19,6 @@ returns c = let start = c .before .before .before in
 get-requires : tie.Need-get-requires
 get-requires c κs = c .before .before .before .pre .1 .pattern (uses c)
 
-crosses-requires : tie.Need-crosses-requires
-crosses-requires c κs = search needs
-
 returns-2 : tie.Need-returns-2
 unfolding patternRead insideAt isOne
 returns-2 c = let used = uses (c .before .before .before) in
@@ -33,4 +30,4 @@ returns-3 c = let used = uses (c .before .before) in
     rw (used, c .if2 .left, c .before .get .ensures)
 
 pub pattern-read-spec : {M : Type 1} → statement M
-pattern-read-spec = tie.close (tie.spec returns get-requires crosses-requires returns-2 returns-3)
+pattern-read-spec = tie.close (tie.spec returns get-requires (λ c κs. search needs) returns-2 returns-3)

@@ -7,9 +7,6 @@ use borrow.Author.Needs.{needs}
 use Rattle.position.proofs.look.source_read.Statement.{statement}
 use Rattle.position.proofs.look.source_read.Tie as tie
 
-reads-source-requires : tie.Need-reads-source-requires
-reads-source-requires c κs = search needs
-
 get-requires : tie.Need-get-requires
 get-requires c κs = c .before .before .before .pre .source (sym (c .before .reads-source .ensures) ∙ c .if1 .taken)
 
@@ -22,4 +19,4 @@ unfolding sourceRead
 returns-2 c = sym (choose-false _ 0 (sym (c .before .reads-source .ensures) ∙ c .if1 .left))
 
 pub source-read-spec : {M : Type 1} → statement M
-source-read-spec = tie.close (tie.spec reads-source-requires get-requires returns returns-2)
+source-read-spec = tie.close (tie.spec (λ c κs. search needs) get-requires returns returns-2)

@@ -20,15 +20,6 @@ source-picked c memory pen seen target =
     rw (c .picked .ensures, c .before .ink-of .ensures, c .before .before .is-foreground .ensures memory pen seen target, target .source)
     (picked-read s memory pen (isForeground s memory pen) (inkOf s memory pen .colour))
 
-is-foreground-requires : tie.Need-is-foreground-requires
-is-foreground-requires c κs = search needs
-
-ink-of-requires : tie.Need-ink-of-requires
-ink-of-requires c κs = search needs
-
-picked-requires : tie.Need-picked-requires
-picked-requires c κs = search needs
-
 mix-requires : tie.Need-mix-requires
 mix-requires c κs = c .before .before .before .pre
 
@@ -46,4 +37,4 @@ returns c = λ memory pen seen target.
 pub mixed-pixel-spec : {M : Type 1} → statement M
 mixed-pixel-spec =
     tie.close
-    (tie.spec is-foreground-requires ink-of-requires picked-requires mix-requires returns)
+    (tie.spec (λ c κs. search needs) (λ c κs. search needs) (λ c κs. search needs) mix-requires returns)

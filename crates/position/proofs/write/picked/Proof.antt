@@ -4,9 +4,6 @@ use borrow.Author.Needs.{needs}
 use Rattle.position.proofs.write.picked.Statement.{statement}
 use Rattle.position.proofs.write.picked.Tie as tie
 
-takes-source-requires : tie.Need-takes-source-requires
-takes-source-requires c κs = search needs
-
 returns : tie.Need-returns
 returns c = rw (sym (c .before .takes-source .ensures) ∙ c .if1 .taken)
 
@@ -14,4 +11,4 @@ returns-2 : tie.Need-returns-2
 returns-2 c = rw (sym (c .before .takes-source .ensures) ∙ c .if1 .left)
 
 pub picked-spec : {M : Type 1} → statement M
-picked-spec = tie.close (tie.spec takes-source-requires returns returns-2)
+picked-spec = tie.close (tie.spec (λ c κs. search needs) returns returns-2)

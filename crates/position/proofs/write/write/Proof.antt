@@ -13,9 +13,6 @@ mixed-pixel-requires c κs = c .before .pre .0
 store-requires : tie.Need-store-requires
 store-requires c κs = (c .before .before .before .before .pre .1, c .before .before .before .before .pre .2)
 
-same-length : tie.Need-same-length
-same-length c = search needs
-
 returns : tie.Need-returns
 unfolding cellAt withPixel drawn
 returns c = λ pen seen painted.
@@ -30,4 +27,4 @@ returns c = λ pen seen painted.
     )
 
 pub write-spec : {M : Type 1} → statement M
-write-spec = tie.close (tie.spec mixed-pixel-requires store-requires same-length returns)
+write-spec = tie.close (tie.spec mixed-pixel-requires store-requires (λ c. search needs) returns)

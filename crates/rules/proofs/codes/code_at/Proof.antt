@@ -4,18 +4,9 @@ use Rattle.rules.specs.Codes.{codeAt}
 use Rattle.rules.proofs.codes.code_at.Statement.{statement}
 use Rattle.rules.proofs.codes.code_at.Tie as tie
 
-left-out-requires : tie.Need-left-out-requires
-left-out-requires c κs = search needs
-
-add-byte : tie.Need-add-byte
-add-byte c = search needs
-
-byte-requires : tie.Need-byte-requires
-byte-requires c κs = search needs
-
 returns : tie.Need-returns
 unfolding codeAt
 returns c = rw (c .byte .ensures, c .before .left-out .ensures)
 
 pub code-at-spec : {M : Type 1} → statement M
-code-at-spec = tie.close (tie.spec left-out-requires add-byte byte-requires returns)
+code-at-spec = tie.close (tie.spec (λ c κs. search needs) (λ c. search needs) (λ c κs. search needs) returns)

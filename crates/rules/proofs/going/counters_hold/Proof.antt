@@ -7,30 +7,6 @@ use Rattle.rules.proofs.going.counters_hold.Tie as tie
 enum-told : tie.Need-enum-told
 enum-told c = search needs
 
-enum-known-drawing : tie.Need-enum-known-drawing
-enum-known-drawing c = search needs
-
-is-line-requires : tie.Need-is-line-requires
-is-line-requires c κs = search needs
-
-mode-of-requires : tie.Need-mode-of-requires
-mode-of-requires c κs = search needs
-
-enum-known-drawing-2 : tie.Need-enum-known-drawing-2
-enum-known-drawing-2 c = search needs
-
-codes-hold-requires : tie.Need-codes-hold-requires
-codes-hold-requires c κs = search needs
-
-enum-known-drawing-3 : tie.Need-enum-known-drawing-3
-enum-known-drawing-3 c = search needs
-
-is-block-requires : tie.Need-is-block-requires
-is-block-requires c κs = search needs
-
-is-fill-requires : tie.Need-is-fill-requires
-is-fill-requires c κs = search needs
-
 returns : tie.Need-returns
 unfolding countersHold
 returns c = rw (c .enum-told .given .1)
@@ -51,14 +27,14 @@ counters-hold-spec =
     tie.close
     (tie.spec
     enum-told
-    enum-known-drawing
-    is-line-requires
-    mode-of-requires
-    enum-known-drawing-2
-    codes-hold-requires
-    enum-known-drawing-3
-    is-block-requires
-    is-fill-requires
+    (λ c. search needs)
+    (λ c κs. search needs)
+    (λ c κs. search needs)
+    (λ c. search needs)
+    (λ c κs. search needs)
+    (λ c. search needs)
+    (λ c κs. search needs)
+    (λ c κs. search needs)
     returns
     returns-2
     returns-3

@@ -6,12 +6,6 @@ use Rattle.rules.proofs.MapLaws.{needed-le}
 use Rattle.rules.proofs.maps.end_holds.Statement.{statement}
 use Rattle.rules.proofs.maps.end_holds.Tie as tie
 
-cast-result : tie.Need-cast-result
-cast-result c = search needs
-
-needed-requires : tie.Need-needed-requires
-needed-requires c κs = search needs
-
 add-result : tie.Need-add-result
 add-result c = let map = c .before .before .args .map in omega (arith, needed-le map (omega arith) (omega arith))
 
@@ -20,4 +14,4 @@ unfolding endHolds
 returns c = rw (c .needed .ensures)
 
 pub end-holds-spec : {M : Type 1} → statement M
-end-holds-spec = tie.close (tie.spec cast-result needed-requires add-result returns)
+end-holds-spec = tie.close (tie.spec (λ c. search needs) (λ c κs. search needs) add-result returns)

@@ -5,18 +5,9 @@ use Rattle.rules.specs.Maps.{mapAt}
 use Rattle.rules.proofs.maps.map_at.Statement.{statement}
 use Rattle.rules.proofs.maps.map_at.Tie as tie
 
-cast-i : tie.Need-cast-i
-cast-i c = search needs
-
-mul-result : tie.Need-mul-result
-mul-result c = search needs
-
-array-copy-out-result : tie.Need-array-copy-out-result
-array-copy-out-result c = search needs
-
 returns : tie.Need-returns
 unfolding mapAt
 returns c = refl
 
 pub map-at-spec : {M : Type 1} → statement M
-map-at-spec = tie.close (tie.spec cast-i mul-result array-copy-out-result returns)
+map-at-spec = tie.close (tie.spec (λ c. search needs) (λ c. search needs) (λ c. search needs) returns)

@@ -4,12 +4,9 @@ use Rattle.rules.specs.Operations.{isCodes}
 use Rattle.rules.proofs.operations.is_codes.Statement.{statement}
 use Rattle.rules.proofs.operations.is_codes.Tie as tie
 
-function-of-requires : tie.Need-function-of-requires
-function-of-requires c κs = search needs
-
 returns : tie.Need-returns
 unfolding isCodes
 returns c = rw (c .function-of .ensures)
 
 pub is-codes-spec : {M : Type 1} → statement M
-is-codes-spec = tie.close (tie.spec function-of-requires returns)
+is-codes-spec = tie.close (tie.spec (λ c κs. search needs) returns)

@@ -4,12 +4,9 @@ use borrow.Author.Needs.{needs}
 use Rattle.rules.proofs.operations.is_fill.Statement.{statement}
 use Rattle.rules.proofs.operations.is_fill.Tie as tie
 
-function-of-requires : tie.Need-function-of-requires
-function-of-requires c κs = search needs
-
 returns : tie.Need-returns
 unfolding isFill
 returns c = rw (c .function-of .ensures)
 
 pub is-fill-spec : {M : Type 1} → statement M
-is-fill-spec = tie.close (tie.spec function-of-requires returns)
+is-fill-spec = tie.close (tie.spec (λ c κs. search needs) returns)

@@ -4,12 +4,9 @@ use Rattle.rules.specs.Operations.{isLine}
 use Rattle.rules.proofs.operations.is_line.Statement.{statement}
 use Rattle.rules.proofs.operations.is_line.Tie as tie
 
-function-of-requires : tie.Need-function-of-requires
-function-of-requires c κs = search needs
-
 returns : tie.Need-returns
 unfolding isLine
 returns c = rw (c .function-of .ensures)
 
 pub is-line-spec : {M : Type 1} → statement M
-is-line-spec = tie.close (tie.spec function-of-requires returns)
+is-line-spec = tie.close (tie.spec (λ c κs. search needs) returns)

@@ -5,12 +5,6 @@ use borrow.Author.Needs.{needs}
 use Rattle.rules.proofs.operations.mode_of.Statement.{statement}
 use Rattle.rules.proofs.operations.mode_of.Tie as tie
 
-is-block-requires : tie.Need-is-block-requires
-is-block-requires c κs = search needs
-
-drawing-mode-requires : tie.Need-drawing-mode-requires
-drawing-mode-requires c κs = search needs
-
 returns : tie.Need-returns
 unfolding modeOf
 returns c = rw (sym (c .before .is-block .ensures) ∙ c .if1 .taken)
@@ -20,4 +14,4 @@ unfolding modeOf
 returns-2 c = rw (sym (c .before .before .is-block .ensures) ∙ c .before .if1 .left) (c .drawing-mode .ensures)
 
 pub mode-of-spec : {M : Type 1} → statement M
-mode-of-spec = tie.close (tie.spec is-block-requires drawing-mode-requires returns returns-2)
+mode-of-spec = tie.close (tie.spec (λ c κs. search needs) (λ c κs. search needs) returns returns-2)

@@ -4,12 +4,9 @@ use Rattle.rules.specs.Operations.{usesMask}
 use Rattle.rules.proofs.operations.uses_mask.Statement.{statement}
 use Rattle.rules.proofs.operations.uses_mask.Tie as tie
 
-mask-mode-requires : tie.Need-mask-mode-requires
-mask-mode-requires c κs = search needs
-
 returns : tie.Need-returns
 unfolding usesMask
 returns c = rw (c .mask-mode .ensures)
 
 pub uses-mask-spec : {M : Type 1} → statement M
-uses-mask-spec = tie.close (tie.spec mask-mode-requires returns)
+uses-mask-spec = tie.close (tie.spec (λ c κs. search needs) returns)

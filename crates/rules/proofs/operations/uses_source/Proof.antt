@@ -4,15 +4,9 @@ use Rattle.rules.specs.Operations.{usesSource}
 use Rattle.rules.proofs.operations.uses_source.Statement.{statement}
 use Rattle.rules.proofs.operations.uses_source.Tie as tie
 
-source-is-colour-requires : tie.Need-source-is-colour-requires
-source-is-colour-requires c κs = search needs
-
-pattern-field-requires : tie.Need-pattern-field-requires
-pattern-field-requires c κs = search needs
-
 returns : tie.Need-returns
 unfolding usesSource
 returns c = rw (c .pattern-field .ensures, c .before .source-is-colour .ensures)
 
 pub uses-source-spec : {M : Type 1} → statement M
-uses-source-spec = tie.close (tie.spec source-is-colour-requires pattern-field-requires returns)
+uses-source-spec = tie.close (tie.spec (λ c κs. search needs) (λ c κs. search needs) returns)

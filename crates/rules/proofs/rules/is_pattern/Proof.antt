@@ -4,12 +4,9 @@ use Rattle.rules.specs.Rules.{isPattern}
 use Rattle.rules.proofs.rules.is_pattern.Statement.{statement}
 use Rattle.rules.proofs.rules.is_pattern.Tie as tie
 
-is-map-requires : tie.Need-is-map-requires
-is-map-requires c κs = search needs
-
 returns : tie.Need-returns
 unfolding isPattern
 returns c = rw (c .is-map .ensures)
 
 pub is-pattern-spec : {M : Type 1} → statement M
-is-pattern-spec = tie.close (tie.spec is-map-requires returns)
+is-pattern-spec = tie.close (tie.spec (λ c κs. search needs) returns)

@@ -4,22 +4,13 @@ use borrow.Author.Needs.{needs}
 use Rattle.rules.proofs.rules.start_refusal.Statement.{statement}
 use Rattle.rules.proofs.rules.start_refusal.Tie as tie
 
-fields-hold-requires : tie.Need-fields-hold-requires
-fields-hold-requires c κs = search needs
-
 returns : tie.Need-returns
 unfolding startRefusal
 returns c = rw (← c .before .fields-hold .ensures, c .if1 .taken)
 
-mixes-hold-requires : tie.Need-mixes-hold-requires
-mixes-hold-requires c κs = search needs
-
 returns-2 : tie.Need-returns-2
 unfolding startRefusal
 returns-2 c = rw (← c .before .before .before .fields-hold .ensures, c .before .before .if1 .left, ← c .before .mixes-hold .ensures, c .if2 .taken)
-
-formats-hold-requires : tie.Need-formats-hold-requires
-formats-hold-requires c κs = search needs
 
 returns-3 : tie.Need-returns-3
 unfolding startRefusal
@@ -28,9 +19,6 @@ returns-3 c =
     let fields = mixes .before .before in
     rw (← fields .before .fields-hold .ensures, fields .if1 .left, ← mixes .before .mixes-hold .ensures, mixes .if2 .left)
     (rw (← c .before .formats-hold .ensures, c .if3 .taken))
-
-ends-hold-requires : tie.Need-ends-hold-requires
-ends-hold-requires c κs = search needs
 
 returns-4 : tie.Need-returns-4
 unfolding startRefusal
@@ -54,12 +42,12 @@ pub start-refusal-spec : {M : Type 1} → statement M
 start-refusal-spec =
     tie.close
     (tie.spec
-    fields-hold-requires
+    (λ c κs. search needs)
     returns
-    mixes-hold-requires
+    (λ c κs. search needs)
     returns-2
-    formats-hold-requires
+    (λ c κs. search needs)
     returns-3
-    ends-hold-requires
+    (λ c κs. search needs)
     returns-4
     returns-5)

@@ -4,25 +4,13 @@ use borrow.Author.Needs.{needs}
 use Rattle.rules.proofs.starts.start_drawing.Statement.{statement}
 use Rattle.rules.proofs.starts.start_drawing.Tie as tie
 
-is-line-requires : tie.Need-is-line-requires
-is-line-requires c κs = search needs
-
 returns : tie.Need-returns
 unfolding drawingStarted
 returns c = rw (← c .before .is-line .ensures, c .if1 .taken)
 
-is-block-requires : tie.Need-is-block-requires
-is-block-requires c κs = search needs
-
 returns-2 : tie.Need-returns-2
 unfolding drawingStarted
 returns-2 c = rw (← c .before .before .before .is-line .ensures, c .before .before .if1 .left, ← c .before .is-block .ensures, c .if2 .taken)
-
-code-at-requires : tie.Need-code-at-requires
-code-at-requires c κs = search needs
-
-stops-requires : tie.Need-stops-requires
-stops-requires c κs = search needs
 
 returns-3 : tie.Need-returns-3
 unfolding drawingStarted
@@ -44,11 +32,11 @@ pub start-drawing-spec : {M : Type 1} → statement M
 start-drawing-spec =
     tie.close
     (tie.spec
-    is-line-requires
+    (λ c κs. search needs)
     returns
-    is-block-requires
+    (λ c κs. search needs)
     returns-2
-    code-at-requires
-    stops-requires
+    (λ c κs. search needs)
+    (λ c κs. search needs)
     returns-3
     returns-4)
