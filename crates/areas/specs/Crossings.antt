@@ -39,7 +39,7 @@ crosses t pen (suc n) =
     samePlace (rowAfter t (suc (suc n)) pen) (below (rowAfter t (suc n) pen)) || samePlace (rowAfter t n pen) (below (rowAfter t (suc n) pen))
 
 -- 02, 102: position n crosses at column x of row y, and is not of a move code; left of the map it counts in column 0
-unfoldable pub crossesAt : Travel → Pen → ℕ → ℕ → ℕ → Bool
+unfoldable pub crossesAt : Travel → Pen → (x y n : ℕ) → Bool
 crossesAt t pen x y n =
     unfinished (penAfter t n pen .drawing)
     && not (isMove t (penAfter t n pen .drawing))
@@ -48,6 +48,6 @@ crossesAt t pen x y n =
     && samePlace (rowAfter t n pen) (pos y)
 
 -- 02, 102: how many of the first n positions do
-unfoldable pub crossings : Travel → Pen → ℕ → ℕ → ℕ → ℕ
+unfoldable pub crossings : Travel → Pen → (x y n : ℕ) → ℕ
 crossings t pen x y zero = 0
 crossings t pen x y (suc n) = crossings t pen x y n + choose (crossesAt t pen x y n) 1 0

@@ -67,7 +67,7 @@ zeros zero = []
 zeros (suc n) = 0 ∷ zeros n
 
 -- what a write answers
-unfoldable pub written : ℕ → ℕ → ℕ → Coprocessor → Written
+unfoldable pub written : (offset length value : ℕ) → Coprocessor → Written
 written offset length value c = writeAnswer (record { offset = offset; length = length; value = value }) c
 
 -- whether each call has its answer, by what the coprocessor's calls promise

@@ -18,7 +18,7 @@ unfoldable pub outcomeOf : Refusal → ℕ → Answer
 outcomeOf refusal positions = choose (isAccepted refusal) (Done positions) (Refused (refusalNumber refusal))
 
 -- 01, the bench program: 0 positions for writes
-unfoldable pub writeTold : ℕ → ℕ → ℕ → Coprocessor → Told
+unfoldable pub writeTold : (offset length value : ℕ) → Coprocessor → Told
 writeTold offset length value c =
     record {
       answer = outcomeOf (writeAnswer (record { offset = offset; length = length; value = value }) c .refusal) 0;

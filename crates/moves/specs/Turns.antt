@@ -16,7 +16,7 @@ opposite Forth = Back
 opposite Back = Forth
 
 -- 01, Maps and pointers: k steps in a map of last + 1 columns or rows; stepping past an edge comes in at the other
-unfoldable pub turnedBy : Turn → ℕ → ℕ → ℕ → ℕ
+unfoldable pub turnedBy : Turn → (k last x : ℕ) → ℕ
 turnedBy Stay k last x = x
 turnedBy Forth k last x = forth (last + 1) k x
 turnedBy Back k last x = back (last + 1) k x

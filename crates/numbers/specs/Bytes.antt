@@ -21,7 +21,7 @@ unfoldable pub byteOf : ℕ → ℕ → ℕ
 byteOf x k = x / 256 ^ k % 256
 
 -- 01, Registers: the n bytes of x that follow its lowest skip bytes
-unfoldable pub partOf : ℕ → ℕ → ℕ → ℕ
+unfoldable pub partOf : (skip n x : ℕ) → ℕ
 partOf skip n x = x / 256 ^ skip % 256 ^ n
 
 -- 01, Registers: the n low bits of x, to which map index (2), condition (3), format (4), and sizes, dimensions, mask origin and pointers (12) are reduced
@@ -33,11 +33,11 @@ unfoldable pub covers : Write → ℕ → Bool
 covers w at = leb (w .offset) at && ltb (at - w .offset) (w .length)
 
 -- 01, Registers: the stored bytes, from offset at on, take the new ones that the write covers
-unfoldable pub latchedBytes : ℕ → ℕ → Write → ℕ → List ℕ
+unfoldable pub latchedBytes : (n at : ℕ) → Write → (stored : ℕ) → List ℕ
 latchedBytes zero at w stored = []
 latchedBytes (suc n) at w stored =
     choose (covers w at) (byteOf (w .value) (at - w .offset)) (stored % 256) ∷ latchedBytes n (suc at) w (stored / 256)
 
 -- 01, Registers: the number of n bytes that a register at this offset holds after the write, before it is reduced
-unfoldable pub latched : ℕ → ℕ → Write → ℕ → ℕ
+unfoldable pub latched : (n at : ℕ) → Write → (stored : ℕ) → ℕ
 latched n at w stored = numberOf (latchedBytes n at w stored)

@@ -15,6 +15,6 @@ unfoldable pub pixelAt : List ℕ → Map → ℕ → ℕ → ℕ
 pixelAt memory map x y = field (shiftOf map x y) (bitsOf (map .format)) (byteAt memory map x y)
 
 -- docs/DECISIONS.md, 20: memory with the low bits of v for pixel (x, y), and as it was where that lies beyond the memory
-unfoldable pub withPixel : List ℕ → Map → ℕ → ℕ → ℕ → List ℕ
+unfoldable pub withPixel : List ℕ → Map → (x y v : ℕ) → List ℕ
 withPixel memory map x y v =
     set memory (placeOf map x y) (withField (shiftOf map x y) (bitsOf (map .format)) v (byteAt memory map x y))
