@@ -7,7 +7,7 @@ use parts::refusals::Refusal;
 use parts::refusals::accepts;
 use parts::refusals::number;
 
-// What a call answers for an image that does not load.
+// What a call answers for an image that does not load, and a fresh one for a buffer of another length.
 const NO_IMAGE: u32 = 10;
 
 // A refusal in the high word, a value in the low.
@@ -84,10 +84,8 @@ pub extern "C" fn xga_run(image: &mut [u8], memory: &mut [u8], allowance: u32) -
     if !accepts(found) {
         return answer(found, 0);
     }
-    let state = opened.coprocessor;
-    let drawn = state.run_known(memory, allowance);
-    let next = drawn.coprocessor;
-    next.save_known(image);
+    let drawn = opened.coprocessor.run_known(memory, allowance);
+    drawn.coprocessor.save_known(image);
     let refusal = drawn.refusal;
     answer(refusal, drawn.done)
 }

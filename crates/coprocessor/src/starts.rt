@@ -10,11 +10,11 @@ use rules::operations::is_line;
 use rules::starts::start_drawing;
 use rules::starts::start_pointers;
 
-// The highest byte of the pixel operations, whose write starts lines and blocks.
-pub(crate) const OPERATIONS_START: u8 = 0x7F;
+// The last byte of the pixel operations, whose write starts lines and blocks.
+pub(crate) const OPERATIONS_LAST: u8 = 0x7F;
 
-// The highest byte of the direction steps, whose write starts draw and step.
-const STEPS_START: u8 = 0x2F;
+// The last byte of the direction steps, whose write starts draw and step.
+const STEPS_LAST: u8 = 0x2F;
 
 impl Coprocessor {
     // Whether the write, already stored, starts a drawing.
@@ -23,12 +23,12 @@ impl Coprocessor {
     {
         let operations = self.registers.figure.operations;
         let drawn = is_line(operations) | is_block(operations);
-        let by_operations = touches(1, OPERATIONS_START, w) & drawn;
-        let by_steps = touches(1, STEPS_START, w) & is_codes(operations);
+        let by_operations = touches(1, OPERATIONS_LAST, w) & drawn;
+        let by_steps = touches(1, STEPS_LAST, w) & is_codes(operations);
         by_operations | by_steps
     }
 
-    // The record with a drawing in hand: used pointers turned into their maps, the counters at zero.
+    // The record as a drawing starts it: used pointers turned into their maps, the counters at zero, or a stop at a first code 00.
     pub(crate) fn start(self, length: u8) -> Coprocessor
         ensures { λ r. ⌜ r ≡ started length self ⌝ }
     {

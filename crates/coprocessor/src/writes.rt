@@ -9,7 +9,7 @@ ghost use Rattle.coprocessor.specs.Writes.{stored, startsBy, writeRefusa
 ghost use Rattle.coprocessor.specs.Inner.{lowerRefusal};
 use crate::Coprocessor;
 use crate::Written;
-use crate::starts::OPERATIONS_START;
+use crate::starts::OPERATIONS_LAST;
 use numbers::bytes::Write;
 use parts::drawing::is_unfinished;
 use parts::latches::latch_map;
@@ -67,7 +67,7 @@ impl Coprocessor {
         if !is_listed(offset, length) {
             return Refusal::Unlisted;
         }
-        if touches(1, OPERATIONS_START, w) & !draws(next.registers.figure.operations) {
+        if touches(1, OPERATIONS_LAST, w) & !draws(next.registers.figure.operations) {
             return Refusal::Function;
         }
         if starts {

@@ -14,7 +14,7 @@ pub struct Counters {
     pub count: u8,
 }
 
-// State 0 is idle, 1 drawing, 2 idle after a stop, 3 drawing and inside; counters not of the function are zero.
+// State 0 is idle, 1 drawing, 2 idle after a stop, 3 drawing with its bit set (a fill inside, a line that rose); counters not of the function are zero.
 pub fn counters_of(drawing: Drawing) -> Counters
     ensures { λ r. ⌜ r ≡ countersOf drawing ⌝ }
 {

@@ -30,7 +30,7 @@ use places::places::destination_of;
 use places::places::mask_of;
 
 // Whether a fill is inside after a pattern pixel, which turns it where it is 1.
-fn crosses(one: bool, drawing: Drawing) -> bool
+fn inside_after(one: bool, drawing: Drawing) -> bool
     ensures { λ r. ⌜ r ≡ choose one (not (insideOf drawing)) (insideOf drawing) ⌝ }
 {
     let inside = is_inside(drawing);
@@ -56,7 +56,7 @@ fn pattern_read(setup: Setup, memory: &[u8], pen: Pen) -> Pattern
     );
     let drawing = pen.drawing;
     if setup.brush.flow.fills {
-        let inside = crosses(pixel != 0, drawing);
+        let inside = inside_after(pixel != 0, drawing);
         Pattern {
             one: inside,
             inside,

@@ -19,13 +19,12 @@ use Rattle.board.proofs.xga_run.Tie as tie
 opened : (c : tie.After-accepts) → c .accepts .result ≡ loads (c .before .before .before .before .before .args .image .now)
 opened c = c .accepts .ensures ∙ ap (λ (a : Written). isAccepted (a .refusal)) (c .before .unpack .ensures) ∙ open-accepts _
 
-fine : (c : tie.After-state) → loads (c .before .before .before .before .before .before .before .args .image .now) ≡ true
-fine c = sym (opened (c .before .before)) ∙ not-false _ (c .before .if1 .left)
+fine : (c : tie.Else1) → loads (c .before .before .before .before .before .before .args .image .now) ≡ true
+fine c = sym (opened (c .before)) ∙ not-false _ (c .if1 .left)
 
 -- the record that the run starts from
-begun : (c : tie.After-state) → c .before .before .before .unpack .result .coprocessor
-    ≡ loaded (c .before .before .before .before .before .before .before .args .image .now)
-begun c = ap (λ (a : Written). a .coprocessor) (c .before .before .before .unpack .ensures) ∙ open-record _ (fine c)
+begun : (c : tie.Else1) → c .before .before .unpack .result .coprocessor ≡ loaded (c .before .before .before .before .before .before .args .image .now)
+begun c = ap (λ (a : Written). a .coprocessor) (c .before .before .unpack .ensures) ∙ open-record _ (fine c)
 
 returns : tie.Need-returns
 unfolding runNumber runImage runBytes callAnswer
@@ -38,15 +37,15 @@ run-known-requires : tie.Need-run-known-requires
 run-known-requires c κs = rw (begun (c .before)) (loaded-valid _ (fine (c .before)))
 
 save-known-requires : tie.Need-save-known-requires
-save-known-requires c κs = loads-length _ (fine (c .before .before .before .before .before .before))
+save-known-requires c κs = loads-length _ (fine (c .before .before .before .before .before))
 
 returns-2 : tie.Need-returns-2
 unfolding runNumber runImage runBytes
 returns-2 c =
-    let state = c .before .before .before .before .before .before .before .before .before .before in
+    let state = c .before .before .before .before .before .before .before .before .before in
     let good = fine state in
-    let a = c .before .before .before .before .before .before .before .before .before .before .before .before .before .before .before .before .before .args in
-    let ran = c .before .before .before .before .before .before .before .before .run-known .ensures in
+    let a = c .before .before .before .before .before .before .before .before .before .before .before .before .before .before .before .args in
+    let ran = c .before .before .before .before .before .before .before .run-known .ensures in
     let drawn = ran .0 ∙ ap (λ (s : Coprocessor). runAnswer s (a .memory .now) (a .allowance)) (begun state) in
     let valid = run-valid (loaded (a .image .now)) (a .memory .now) (a .allowance) (loaded-valid _ good) in (
       simp good (c .answer2 .ensures ∙ ap (λ (d : Drawn). callAnswer (d .refusal) (d .done)) drawn),

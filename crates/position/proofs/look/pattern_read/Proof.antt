@@ -22,7 +22,7 @@ get-requires c κs = c .before .before .before .pre .1 .pattern (uses c)
 returns-2 : tie.Need-returns-2
 unfolding patternRead insideAt isOne
 returns-2 c = let used = uses (c .before .before .before) in
-    rw (used, c .before .if2 .taken, c .crosses .ensures, c .before .before .get .ensures)
+    rw (used, c .before .if2 .taken, c .inside-after .ensures, c .before .before .get .ensures)
 
 returns-3 : tie.Need-returns-3
 unfolding patternRead insideAt isOne
