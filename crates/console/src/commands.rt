@@ -94,7 +94,7 @@ fn run_command(args: &[u8]) -> Command
 }
 
 // The command that a line is; a line of blanks asks for nothing, and any other is neither a write nor a run.
-pub(crate) fn command_of(line: &[u8]) -> Command
+pub fn command_of(line: &[u8]) -> Command
     ensures { λ r. ⌜ r ≡ commandOf (now (line .entry)) ⌝ }
 {
     let first = skip(line);
