@@ -24,7 +24,7 @@ use Rattle.places.proofs.ModeLaws.{boundary-null}
 use Rattle.areas.specs.Crossings.{penAfter, rowAfter, below, samePlace, crosses}
 use Rattle.areas.specs.Outlines.{atStart}
 use Rattle.areas.proofs.Rows.{goesDown, down-seen, up-seen}
-use Rattle.areas.proofs.Reached.{turnOf, Reached, none, line, first, next, start-reached, next-reached, boundary-turns}
+use Rattle.areas.proofs.Reached.{Bounding, turnOf, Reached, none, line, first, next, start-reached, next-reached, boundary-turns}
 
 -- ---- the row after a position
 
@@ -59,13 +59,13 @@ pub leading : Travel → Pen → ℕ → Turn
 leading s pen zero = Stay
 leading s pen (suc n) = leaving s pen n
 
-module _ (s : Travel) (pen : Pen) (bounds : s .course .bounds ≡ true) (start : atStart (pen .drawing) ≡ true) where
+module _ (s : Travel) (pen : Pen) (bounds : Bounding s) (start : atStart (pen .drawing) ≡ true) where
   pub reached-after : (n : ℕ) → Reached s (leading s pen n) (penAfter s n pen .drawing)
   unfolding penAfter leading leaving
   reached-after zero = start-reached s (pen .drawing) start
   reached-after (suc n) = rw (drawing-moved s (penAfter s n pen)) (next-reached s bounds (penAfter s n pen .e) (reached-after n))
 
-module _ (s : Travel) (pen : Pen) (bounds : s .course .bounds ≡ true) (write : s .course .read ≡ false)
+module _ (s : Travel) (pen : Pen) (bounds : Bounding s) (write : s .course .read ≡ false)
     (start : atStart (pen .drawing) ≡ true) (on : OnCircle (pen .pointers .destination .y)) where
   row-next : (n : ℕ) → rowAfter s (suc n) pen ≡ circledBy (leaving s pen n) 1 (rowAfter s n pen)
   unfolding penAfter leaving
@@ -90,7 +90,7 @@ module _ (s : Travel) (pen : Pen) (bounds : s .course .bounds ≡ true) (write :
 
 -- 02, 102: of a line or codes of a write form the mode keeps back exactly the positions that do not cross; of a read form, whose destination stays in its
 -- row, nothing is said here
-pub boundary-drawn : (s : Setup) (pen : Pen) → s .brush .flow .mode ≡ 3 → s .travel .course .bounds ≡ true → s .travel .course .read ≡ false
+pub boundary-drawn : (s : Setup) (pen : Pen) → s .brush .flow .mode ≡ 3 → Bounding (s .travel) → s .travel .course .read ≡ false
     → atStart (pen .drawing) ≡ true → OnCircle (pen .pointers .destination .y)
     → (n : ℕ) → unfinished (penAfter (s .travel) n pen .drawing) ≡ true
     → isNulled s (penAfter (s .travel) n pen) ≡ not (crosses (s .travel) pen n)
@@ -98,4 +98,4 @@ unfolding nulledBy isNulled leaving
 boundary-drawn s pen mode bounds write start on n going =
     let t = s .travel in
     boundary-null (s .brush .flow .mode) (isFirst (penAfter t n pen .drawing)) (isLast t (penAfter t n pen .drawing)) _ mode
-    ∙ ap not (boundary-turns t (penAfter t n pen .e) (reached-after t pen bounds start n) going ∙ sym (crosses-turns t pen bounds write start on n))
+    ∙ ap not (boundary-turns t bounds (penAfter t n pen .e) (reached-after t pen bounds start n) going ∙ sym (crosses-turns t pen bounds write start on n))

@@ -1,15 +1,16 @@
 -- Which positions a record's outline draws: the law of a boundary's rows, for the set-up that the registers make.
-use mathlib.Core.Path.{_≡_, refl, _∙_}
+use mathlib.Core.Path.{_≡_, refl, sym, _∙_}
 use mathlib.Core.Bool.{Bool, true, false, not, _||_}
-use Prim.Native.Nat.{ℕ}
+use Prim.Native.Nat.{ℕ, _%_}
 use lib.Dec.{eqb}
 use borrow.Author.Tests.{eqb-true, eq-eqb}
-use Rattle.numbers.proofs.Choices.{choose-false, and-left, and-right}
+use Rattle.numbers.proofs.Choices.{choose-false, choose-part, and-left, and-right}
 use Rattle.parts.specs.Drawings.{unfinished}
 use Rattle.parts.specs.Reduced.{spotReduced, pointersReduced, registersReduced}
 use Rattle.parts.proofs.ReducedLaws.{destination-circle-fixed}
-use Rattle.rules.specs.Operations.{functionOf, drawingMode, isFill, isBlock, modeOf}
-use Rattle.moves.specs.Decoded.{courseOf, travelOf}
+use Rattle.rules.specs.Operations.{functionOf, drawingMode, isFill, isBlock, modeOf, octantOf}
+use Rattle.moves.specs.declared.Step.{Step}
+use Rattle.moves.specs.Decoded.{straightOf, courseOf, travelOf}
 use Rattle.places.specs.Decoded.{flowOf, brushOf}
 use Rattle.moves.proofs.CircledLaws.{OnCircle}
 use Rattle.places.specs.Places.{isNulled}
@@ -18,6 +19,7 @@ use Rattle.coprocessor.specs.Valid.{reducedOf, validOf}
 use Rattle.coprocessor.specs.Runs.{setupOf, penOf}
 use Rattle.areas.specs.Crossings.{penAfter, crosses}
 use Rattle.areas.specs.Outlines.{atStart}
+use Rattle.areas.proofs.Reached.{Bounding}
 use Rattle.areas.proofs.Boundary.{boundary-drawn}
 
 -- what is a line or codes of a write form is neither of a read form, nor a block
@@ -31,6 +33,17 @@ writes function e = by (eqb function 4) refl e
     by : (four : Bool) → eqb function 4 ≡ four → (four || eqb function 5) ≡ true → Writes function
     by true f e = let same = eqb-true function 4 f in record { read = rw same; block = rw same }
     by false f e = let same = eqb-true function 5 e in record { read = rw same; block = rw same }
+
+-- a record's straight step goes its way in Y where Y is major, and stays in its row otherwise
+pub bounding : (c : Coprocessor) → modeOf (c .registers .figure .operations) ≡ 3 → Bounding (setupOf c .travel)
+unfolding setupOf travelOf courseOf straightOf
+bounding c mode =
+    let octant = octantOf (c .registers .figure .operations) in
+    record {
+      bounds = eq-eqb _ 3 mode;
+      steep = eqb (octant % 2) 1;
+      straight = sym (choose-part (λ (s : Step). s .y) (eqb (octant % 2) 1) _ _);
+    }
 
 -- a valid record's destination is on its circle
 pub destination-on : (c : Coprocessor) → validOf c ≡ true → OnCircle (c .registers .pointers .destination .y)
@@ -48,4 +61,4 @@ unfolding setupOf penOf travelOf brushOf flowOf courseOf modeOf isBlock isFill
 drawn-by-rows c valid function mode start =
     let w = writes (functionOf (c .registers .figure .operations)) function in
     let eleven : modeOf (c .registers .figure .operations) ≡ 3 = choose-false _ _ (w .block) ∙ mode in
-    boundary-drawn (setupOf c) (penOf c) eleven (eq-eqb _ 3 eleven) (w .read) start (destination-on c valid)
+    boundary-drawn (setupOf c) (penOf c) eleven (bounding c eleven) (w .read) start (destination-on c valid)

@@ -25,7 +25,7 @@ use Rattle.rules.specs.Maps.{freshMap, endHolds, formatHolds, isInside, isOneBi
 use Rattle.rules.specs.Operations.{isBlock, isCodes, isFill, isLine, isMap, modeOf, sourceIsColour, usesMask, usesPattern, usesSource}
 use Rattle.rules.specs.Rules.{endsHold, fieldsHold, fillHolds, formatsHold, isPattern, isSource, mixesHold, startRefusal, usedMaps}
 use Rattle.rules.specs.Totals.{totalOf}
-use Rattle.moves.specs.Decoded.{courseOf, signOf, travelOf}
+use Rattle.moves.specs.Decoded.{courseOf, signOf, straightOf, travelOf}
 use Rattle.moves.specs.Moves.{blockMoved, codePassed, codesMoved, columnPassed, destinationBy, lineError, lineMoved, moved, movedBy, penGone}
 use Rattle.moves.specs.Moves.{penStepped, penWith, rises, rowPassed, rowPoint, rowSpot, sourceBy}
 use Rattle.moves.specs.Steps.{codeStep, lineStep}
@@ -166,7 +166,7 @@ unfolding byteOf forth back residue circle field withField bitsOf startOf placeO
     merged mixed holdsOf conditionHolds insideOf withInside mapReduced termReduced termsReduced pointReduced destinationReduced spotReduced
     isMap isLine isCodes isFill isBlock modeOf sourceIsColour usesSource usesPattern usesMask mapAt formatHolds isOneBit endHolds isInside
     isSource isPattern fillHolds fieldsHold mixesHold usedMaps formatsHold endsHold startRefusal codeAt noneStopped countersHold pointersHold
-    codesFrom totalOf signOf courseOf travelOf flowOf edgeOf depthOf brushOf turnedBy circledBy pointStepped spotStepped lineStep codeStep
+    codesFrom totalOf signOf straightOf courseOf travelOf flowOf edgeOf depthOf brushOf turnedBy circledBy pointStepped spotStepped lineStep codeStep
     sourceBy destinationBy penStepped penWith penGone lineError rises lineMoved codePassed codesMoved columnPassed rowPoint rowSpot rowPassed
     blockMoved movedBy moved isWithin columnOf placeX onMap inMask isMove isFirst isLast onBoundary nulledBy isNulled destinationPixel onZero
     isCompared fateOf sourcePixel isOne insideAt crossed isForeground inkOf picked mixedPixel drawnBy drawn begun positioned stepped after

@@ -26,7 +26,7 @@ use Rattle.coprocessor.specs.Runs.{setupOf, penOf, ranOf, runRefusal, runMemory
 use Rattle.coprocessor.proofs.SafeLaws.{valid-safe}
 use Rattle.areas.specs.Crossings.{crossings}
 use Rattle.areas.specs.Outlines.{Stroke, Strokes, none, more, wholeOf, outlined, crossingsOf}
-use Rattle.areas.proofs.DrawnByRows.{writes, destination-on}
+use Rattle.areas.proofs.DrawnByRows.{writes, bounding, destination-on}
 use Rattle.areas.proofs.Toggles.{Toggles}
 use Rattle.areas.proofs.Strokes.{toggled-after}
 
@@ -45,7 +45,7 @@ module _ (map : Map) (size : ℕ) (c : Coprocessor) (stroke : Stroke map size c)
         depth = bits;
         write = w .read;
         mode = mode;
-        bounds = eq-eqb _ 3 mode;
+        bounds = bounding c mode;
         edge = choose-true _ _ (eq-eqb _ 3 mode);
         mask = stroke .mask;
         pattern = rw (stroke .pattern);

@@ -25,6 +25,12 @@ use Rattle.places.specs.Places.{isFirst, isLast, ofRun, onBoundary}
 use Rattle.areas.specs.Outlines.{atStart}
 use Rattle.areas.proofs.Rows.{goesDown}
 
+-- an area boundary's course: a line's straight step goes its way in Y or stays in its row
+pub record Bounding (s : Travel) : Type 0 where
+  pub bounds : s .course .bounds ≡ true
+  pub steep : Bool
+  pub straight : s .course .straight .y ≡ choose steep (s .course .y) Stay
+
 -- ---- the turn that leaves a position
 
 -- how the row of a position of a line or codes goes to the next one's
@@ -57,21 +63,20 @@ module _ (s : Travel) where
       rw zeroth first
   start-reached (Block inside column row) e = absurd (false≢true e)
 
-  -- a step of a line goes its way in Y or stays in its row
-  along : ℤ → Bool
-  along e = not (ltZ e (pos 0)) || s .course .steep
+  module _ (b : Bounding s) where
+    -- a step of a line goes its way in Y or stays in its row
+    along : ℤ → Bool
+    along e = not (ltZ e (pos 0)) || b .steep
 
-  line-turn : (e : ℤ) → lineStep (s .course) e .y ≡ choose (along e) (s .course .y) Stay
-  unfolding lineStep along
-  line-turn e = by (ltZ e (pos 0)) (s .course .steep)
-    where
-      by : (low steep : Bool)
-          → choose {A = Step} low (choose steep (record { x = Stay; y = s .course .y }) (record { x = s .course .x; y = Stay }))
-          (record { x = s .course .x; y = s .course .y }) .y
-          ≡ choose (not low || steep) (s .course .y) Stay
-      by true true = refl
-      by true false = refl
-      by false steep = refl
+    line-turn : (e : ℤ) → lineStep (s .course) e .y ≡ choose (along e) (s .course .y) Stay
+    unfolding lineStep along
+    line-turn e = by (ltZ e (pos 0))
+      where
+        by : (low : Bool)
+            → choose {A = Step} low (s .course .straight) (record { x = s .course .x; y = s .course .y }) .y
+            ≡ choose (not low || b .steep) (s .course .y) Stay
+        by true = b .straight
+        by false = refl
 
   code-reached : (count code done : ℕ)
       → Reached s (turnOf s (pos 0) (Codes count code done)) (drawingAfter (s .figure) false (Codes count code done))
@@ -90,10 +95,10 @@ module _ (s : Travel) where
       by true less = next (ltb-true done (codeAt (s .figure .steps) count code % 16) less)
       by false more = passed (ltb (code + 1) count) (eqb (codeAt (s .figure .steps) count (code + 1)) 0)
 
-  module _ (bounds : s .course .bounds ≡ true) where
+  module _ (b : Bounding s) where
     line-bit : (e : ℤ) → rises s e ≡ goesUp (lineStep (s .course) e .y)
     unfolding rises
-    line-bit e = rw bounds
+    line-bit e = rw (b .bounds)
 
     -- so is the position after it
     pub next-reached : (e : ℤ) {turn : Turn} {d : Drawing} → Reached s turn d
@@ -104,7 +109,7 @@ module _ (s : Travel) where
       where
         by : (t : Bool) → ltb done (s .figure .dimensions .x) ≡ t
             → Reached s (choose t (lineStep (s .course) e .y) Stay) (choose t (Line (rises s e) (done + 1)) (Nothing false))
-        by true less = rw (line-bit e, line-turn e) (line {done = done + 1} (along e) (omega (arith, ltb-true done (s .figure .dimensions .x) less)))
+        by true less = rw (line-bit e, line-turn b e) (line {done = done + 1} (along b e) (omega (arith, ltb-true done (s .figure .dimensions .x) less)))
         by false more = none
     next-reached e (first {count} {code}) = code-reached count code 0
     next-reached e (next {count} {code} {done} within) = code-reached count code (done + 1)
@@ -165,14 +170,14 @@ another done last h = by (eqb done last) refl
     by true e = le-ltb done last (omega (arith, eqb-true done last e))
     by false e = lt-ltb done last (omega (arith, eqb-false done last e))
 
-module _ (s : Travel) where
+module _ (s : Travel) (b : Bounding s) where
   -- a position is drawn where the turn that leaves it goes down, or the turn that led to it went up
   pub boundary-turns : (e : ℤ) {turn : Turn} {d : Drawing} → Reached s turn d → unfinished d ≡ true
       → onBoundary s e d ≡ goesDown (turnOf s e d) || goesUp turn
   unfolding turnOf onBoundary isFirst isLast
   boundary-turns e none going = absurd (false≢true going)
   boundary-turns e (line {done} steps within) going =
-      rw (line-turn s e, another done (s .figure .dimensions .x) within) (line-run (s .course .y) steps (along s e) (eqb done (s .figure .dimensions .x)))
+      rw (line-turn s b e, another done (s .figure .dimensions .x) within) (line-run (s .course .y) steps (along s b e) (eqb done (s .figure .dimensions .x)))
   boundary-turns e (first {count} {code}) going =
       rw (another 0 (codeAt (s .figure .steps) count code % 16) zero-le) (code-first _ (eqb 0 (codeAt (s .figure .steps) count code % 16)))
   boundary-turns e (next {count} {code} {done} within) going =

@@ -25,7 +25,7 @@ use Rattle.runs.specs.Runs.{Run, begun, positioned, after}
 use Rattle.runs.proofs.RunLaws.{by-stepped, length-after}
 use Rattle.areas.specs.Crossings.{penAfter, samePlace, crosses, crossesAt, crossings}
 use Rattle.areas.specs.Outlines.{atStart}
-use Rattle.areas.proofs.Reached.{Reached, none, line, first, next}
+use Rattle.areas.proofs.Reached.{Bounding, Reached, none, line, first, next}
 use Rattle.areas.proofs.Boundary.{reached-after, boundary-drawn}
 use Rattle.areas.proofs.Toggles.{Toggles, pixel-bit, pixel-drawn}
 
@@ -70,7 +70,7 @@ module _ (s : Travel) (pen : Pen) where
       by true e = e
       by false e = absurd (false≢true (sym e ∙ ap (λ (p : Pen). unfinished (p .drawing)) (sym (idle-after n e)) ∙ going))
 
-pub pen-after : (s : Setup) (pen : Pen) → s .travel .course .bounds ≡ true → atStart (pen .drawing) ≡ true → (memory : List ℕ) (n : ℕ)
+pub pen-after : (s : Setup) (pen : Pen) → Bounding (s .travel) → atStart (pen .drawing) ≡ true → (memory : List ℕ) (n : ℕ)
     → after s n (begun pen memory) .pen ≡ penAfter (s .travel) n pen
 unfolding after begun penAfter positioned
 pen-after s pen bounds start memory zero = refl

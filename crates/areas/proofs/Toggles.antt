@@ -29,6 +29,7 @@ use Rattle.position.specs.Drawn.{isForeground, inkOf, picked, mixedPixel, drawn
 use Rattle.position.proofs.Writing.{on-map}
 use Rattle.areas.specs.Crossings.{samePlace}
 use Rattle.areas.proofs.Rows.{same-self, same-true}
+use Rattle.areas.proofs.Reached.{Bounding}
 
 -- how a stroke of an outline is set up
 pub record Toggles (s : Setup) : Type 0 where
@@ -36,7 +37,7 @@ pub record Toggles (s : Setup) : Type 0 where
   pub depth : s .brush .depth .bits ≡ 1
   pub write : s .travel .course .read ≡ false
   pub mode : s .brush .flow .mode ≡ 3
-  pub bounds : s .travel .course .bounds ≡ true
+  pub bounds : Bounding (s .travel)
   pub edge : s .brush .edge ≡ pos 0
   pub mask : s .brush .mask .mode ≡ 0
   pub pattern : s .travel .pattern .used ≡ false

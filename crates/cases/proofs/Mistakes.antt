@@ -22,7 +22,7 @@ use Rattle.rules.specs.Maps.{endHolds, formatHolds, isInside, isOneBit, mapAt}
 use Rattle.rules.specs.Operations.{draws, isBlock, isCodes, isFill, isLine, isMap, modeOf, sourceIsColour, usesMask, usesPattern, usesSource}
 use Rattle.rules.specs.Rules.{endsHold, fieldsHold, fillHolds, formatsHold, isPattern, isSource, mixesHold, startRefusal, usedMaps}
 use Rattle.rules.specs.Starts.{drawingStarted, pointersStarted, turned}
-use Rattle.moves.specs.Decoded.{courseOf, signOf, travelOf}
+use Rattle.moves.specs.Decoded.{courseOf, signOf, straightOf, travelOf}
 use Rattle.moves.specs.Moves.{blockMoved, codePassed, codesMoved, columnPassed, destinationBy, lineError, lineMoved, moved, movedBy, penGone}
 use Rattle.moves.specs.Moves.{penStepped, penWith, rises, rowPassed, rowPoint, rowSpot, sourceBy}
 use Rattle.moves.specs.Steps.{codeStep, lineStep}
@@ -57,7 +57,7 @@ unfolding numberOf byteOf partOf covers latchedBytes latched forth back residue 
     pixelAt withPixel holdsOf conditionHolds tableBit logical gathered scattered worked arithmetic merged mixed touched taken mapReduced
     termReduced termsReduced pointReduced destinationReduced spotReduced registers among listed placed noneStopped countersHold pointersHold
     mapAt formatHolds endHolds isInside isMap isLine isCodes isBlock draws sourceIsColour usesSource usesPattern usesMask isSource isPattern
-    fieldsHold mixesHold usedMaps formatsHold endsHold startRefusal turned codeAt drawingStarted signOf courseOf flowOf sourceBy destinationBy
+    fieldsHold mixesHold usedMaps formatsHold endsHold startRefusal turned codeAt drawingStarted signOf straightOf courseOf flowOf sourceBy destinationBy
     penStepped penWith penGone lineError lineMoved codePassed codesMoved columnPassed rowPoint rowSpot rowPassed blockMoved movedBy moved
     lineStep codeStep turnedBy circledBy pointStepped spotStepped sourcePixel isForeground inkOf picked mixedPixel drawnBy drawn
     destinationPixel onZero isCompared fateOf isWithin columnOf onMap maskX maskY inMask isMove isFirst isLast nulledBy isNulled begun

@@ -4,14 +4,14 @@ use mathlib.Core.Path.{_≡_, refl, sym, _∙_}
 use Prim.Native.Nat.{ℕ, zero, suc, _+_, _-_, _*_, _/_, _%_, _^_, _≤_, _<_}
 use native.Mathlib.Nat.{mod-mod, div-one, mod-one, not-suc-le-zero, le-of-suc-le-suc}
 use native.Mathlib.Omega.{arith}
-use lib.Bits.{bitAnd, bitOr, bitXor}
+use lib.Bits.{bitAnd, bitXor}
 use lib.Dec.{eqb}
 use borrow.Author.Tests.{lt-ltb, le-ltb}
 use Rattle.numbers.specs.Choose.{choose}
 use Rattle.numbers.proofs.Choices.{choose-either}
 use Rattle.mixes.specs.Mixes.{merged, mixed, logical, arithmetic}
 use Rattle.mixes.proofs.Binary.{last-lt, pair-lt, pair-last, pair-half, low-last, low-half, low-suc, bit-suc}
-use Rattle.mixes.proofs.Bitwise.{Bitwise, agree-all, mask, source, destination, and, or, not}
+use Rattle.mixes.proofs.Bitwise.{Bitwise, agree-all, mask, source, destination, and, xor}
 use Rattle.mixes.proofs.LogicalMixes.{logical-low}
 use Rattle.mixes.proofs.ArithmeticMixes.{arithmetic-low}
 
@@ -54,9 +54,9 @@ unfolding merged
 merged-bitwise = record { none = refl; single = λ m r d. merged-lt 1 (m % 2) (r % 2) (d % 2); step = merged-step }
 
 pub is-merged : (n : ℕ) {m r d : ℕ} → m < 2 ^ n → r < 2 ^ n → d < 2 ^ n
-    → bitOr (bitAnd r m) (bitAnd d (bitXor m (2 ^ n - 1))) ≡ merged n m r d
+    → bitXor d (bitAnd (bitXor r d) m) ≡ merged n m r d
 unfolding merged
-is-merged n hm hr hd = agree-all (or (and source mask) (and destination (not mask))) merged-bitwise tt n _ _ _ hm hr hd
+is-merged n hm hr hd = agree-all (xor destination (and (xor source destination) mask)) merged-bitwise tt n _ _ _ hm hr hd
 
 -- ---- the mix
 

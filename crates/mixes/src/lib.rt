@@ -35,7 +35,7 @@ fn merge(depth: Depth, result: u32, destination: u32) -> u32
     requires { ⌜ Cut depth × (result < 2 ^ depth .bits) × (destination < 2 ^ depth .bits) ⌝ }
     ensures { λ r. ⌜ r ≡ merged (depth .bits) (depth .planes) result destination ⌝ }
 {
-    (result & depth.planes) | (destination & (depth.planes ^ depth.ones))
+    destination ^ ((result ^ destination) & depth.planes)
 }
 
 // The destination pixel after the mix `code` under the plane mask: codes 0 to 15 are logical, 16 to 21 arithmetic, and any

@@ -15,7 +15,7 @@ use Rattle.rules.specs.Codes.{codeAt}
 use Rattle.moves.specs.declared.Travel.{Travel}
 use Rattle.moves.specs.declared.Pen.{Pen}
 use Rattle.moves.specs.Turns.{opposite, turnedBy, circledBy, pointStepped, spotStepped}
-use Rattle.moves.specs.Decoded.{signOf, courseOf}
+use Rattle.moves.specs.Decoded.{signOf, straightOf, courseOf}
 use Rattle.moves.specs.Steps.{lineStep, codeStep, goesUp}
 use Rattle.moves.specs.Moves.{sourceBy, destinationBy, penStepped, penWith, penGone, lineError, rises, lineMoved, codePassed, codesMoved}
 use Rattle.moves.specs.Moves.{columnPassed, rowPoint, rowSpot, rowPassed, blockMoved, movedBy, moved}
@@ -56,7 +56,7 @@ pub case4 : (line 1 .pointers .destination ≡ record { x = pos 1; y = pos 0 })
     × (line 3 .pointers .destination ≡ record { x = pos 3; y = pos 1 })
     × (line 4 ≡ penAt (record { x = 0; y = 0 }) (record { x = pos 3; y = pos 1 }) (negsuc 0) (Nothing false))
 unfolding repeated isFill isBlock modeOf forth back residue circle isMap sourceIsColour usesSource usesPattern turnedBy circledBy pointStepped
-    spotStepped signOf courseOf lineStep sourceBy destinationBy penStepped penWith penGone lineError rises lineMoved movedBy moved
+    spotStepped signOf straightOf courseOf lineStep sourceBy destinationBy penStepped penWith penGone lineError rises lineMoved movedBy moved
 case4 = (refl, refl, refl, refl)
 
 -- docs/DIFFERENCES.md, D3: a read form steps source and pattern by the line, and the destination's X by +1
@@ -71,7 +71,7 @@ pub read-line : (reading 1 .pointers .source ≡ record { x = 7; y = 7 })
     × (reading 1 .pointers .pattern ≡ record { x = 1; y = 7 })
     × (reading 1 .pointers .destination ≡ record { x = negsuc 2047; y = pos 0 })
 unfolding repeated isFill isBlock modeOf forth back residue circle isMap sourceIsColour usesSource usesPattern turnedBy circledBy pointStepped
-    spotStepped signOf courseOf lineStep sourceBy destinationBy penStepped penWith penGone lineError rises lineMoved movedBy moved
+    spotStepped signOf straightOf courseOf lineStep sourceBy destinationBy penStepped penWith penGone lineError rises lineMoved movedBy moved
 read-line = (refl, refl, refl, refl)
 
 -- ---- codes
@@ -90,7 +90,7 @@ pub case678 : (run 1 0x35000000 6 ≡ ended (record { x = pos 22; y = pos 5 }) (
     × (run 4 0xFFFF0035 6 ≡ ended (record { x = pos 22; y = pos 5 }) (Nothing true))
     × (run 1 0x20000000 1 ≡ ended (record { x = pos 17; y = pos 10 }) (Nothing false))
 unfolding repeated isFill isBlock modeOf byteOf forth back residue circle isMap sourceIsColour usesSource usesPattern codeAt turnedBy circledBy
-    pointStepped spotStepped signOf courseOf codeStep sourceBy destinationBy penStepped penWith penGone codePassed codesMoved movedBy moved
+    pointStepped spotStepped signOf straightOf courseOf codeStep sourceBy destinationBy penStepped penWith penGone codePassed codesMoved movedBy moved
 case678 = (refl, refl, refl)
 
 -- ---- blocks
@@ -106,5 +106,5 @@ pub block : (inverted 1 ≡ penAt (record { x = 0; y = 0 }) (record { x = pos 1;
     × (inverted 2 ≡ penAt (record { x = 7; y = 1 }) (record { x = pos 0; y = negsuc 0 }) (pos 0) (Block false 0 1))
     × (inverted 4 ≡ penAt (record { x = 7; y = 2 }) (record { x = pos 0; y = negsuc 1 }) (pos 0) (Nothing false))
 unfolding repeated isFill isBlock modeOf forth back residue circle isMap sourceIsColour usesSource usesPattern turnedBy circledBy pointStepped
-    spotStepped signOf courseOf penStepped columnPassed rowPoint rowSpot rowPassed blockMoved movedBy moved
+    spotStepped signOf straightOf courseOf penStepped columnPassed rowPoint rowSpot rowPassed blockMoved movedBy moved
 block = (refl, refl, refl)

@@ -10,7 +10,8 @@ use Rattle.parts.specs.declared.shapes.Terms.{Terms}
 use Rattle.rules.specs.Operations.{functionOf, sourceField, patternField, modeOf, octantOf, usesSource, usesPattern}
 use Rattle.rules.specs.Maps.{mapAt}
 use Rattle.moves.specs.declared.Turn.{Turn}
-use Rattle.moves.specs.declared.Turn.the-variants.{Forth, Back}
+use Rattle.moves.specs.declared.Turn.the-variants.{Stay, Forth, Back}
+use Rattle.moves.specs.declared.Step.{Step}
 use Rattle.moves.specs.declared.Course.{Course}
 use Rattle.moves.specs.declared.Travel.{Travel}
 
@@ -18,14 +19,19 @@ use Rattle.moves.specs.declared.Travel.{Travel}
 unfoldable pub signOf : ℕ → Turn
 signOf bit = choose (eqb bit 1) Back Forth
 
--- 01, The functions: octant bit 2 is negative X, bit 1 negative Y, bit 0 Y major; 003: functions 2 and 3 read, function 9 inverts,
+-- 01, The functions, Line: octant bit 0 is Y major: a step of the major axis alone
+unfoldable pub straightOf : ℕ → Step
+straightOf octant =
+    choose (eqb (octant % 2) 1) (record { x = Stay; y = signOf (octant / 2 % 2) }) (record { x = signOf (octant / 4 % 2); y = Stay })
+
+-- 01, The functions: octant bit 2 is negative X, bit 1 negative Y; 003: functions 2 and 3 read, function 9 inverts,
 -- drawing mode 11 draws an area boundary
 unfoldable pub courseOf : ℕ → Course
 courseOf operations =
     record {
       x = signOf (octantOf operations / 4 % 2);
       y = signOf (octantOf operations / 2 % 2);
-      steep = eqb (octantOf operations % 2) 1;
+      straight = straightOf (octantOf operations);
       read = eqb (functionOf operations) 2 || eqb (functionOf operations) 3;
       inverts = eqb (functionOf operations) 9;
       bounds = eqb (modeOf operations) 3;

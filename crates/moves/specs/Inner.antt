@@ -2,15 +2,16 @@
 use mathlib.Core.Bool.{Bool, not, _&&_, _||_}
 use Rattle.rules.specs.Maps.{isInside}
 use Rattle.moves.specs.declared.Way.{Way}
-use Rattle.moves.specs.declared.Way.the-variants.{Along, Row, Here}
+use Rattle.moves.specs.declared.Way.the-variants.{Along, Column, Row, Here}
 use Rattle.moves.specs.declared.Travel.{Travel}
 use Rattle.moves.specs.declared.Pen.{Pen}
-use Rattle.moves.specs.Moves.{penStepped, penWith, rowPassed}
+use Rattle.moves.specs.Moves.{penStepped, penWith, columnPassed, rowPassed}
 
--- the pen after going this way: its used pointers stepped, past a row's end, or as it is with another drawing in hand
+-- the pen after going this way: its used pointers stepped, at the next column, past a row's end, or as it is with another drawing in hand
 unfoldable pub wentBy : Travel → Way → Pen → Pen
 wentBy s (Along fromX fromY toX toY e drawing) pen =
     penStepped s (record { x = fromX; y = fromY }) (record { x = toX; y = toY }) e drawing pen
+wentBy s (Column drawing) pen = columnPassed s drawing pen
 wentBy s (Row drawing) pen = rowPassed s drawing pen
 wentBy s (Here drawing) pen = penWith drawing pen
 

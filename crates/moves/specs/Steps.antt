@@ -15,9 +15,7 @@ use Rattle.moves.specs.declared.Course.{Course}
 -- 01, The functions, Line: E below 0 steps the major axis, otherwise both
 unfoldable pub lineStep : Course → ℤ → Step
 lineStep course e =
-    choose (ltZ e (pos 0))
-    (choose (course .steep) (record { x = Stay; y = course .y }) (record { x = course .x; y = Stay }))
-    (record { x = course .x; y = course .y })
+    choose (ltZ e (pos 0)) (course .straight) (record { x = course .x; y = course .y })
 
 -- 01, The functions, Codes: bits 7-5 direction, 0 right, 1 up right, then anticlockwise; up lowers Y
 unfoldable pub codeStep : ℕ → Step

@@ -1,9 +1,10 @@
 ghost use mathlib.Core.Path.{_≡_};
 ghost use mathlib.Core.Bool.{_||_};
 ghost use lib.Dec.{eqb};
-ghost use Rattle.moves.specs.Decoded.{signOf, courseOf, travelOf};
+ghost use Rattle.moves.specs.Decoded.{signOf, straightOf, courseOf, travelOf};
 use crate::Course;
 use crate::Ground;
+use crate::Step;
 use crate::Travel;
 use crate::Turn;
 use parts::shapes::Figure;
@@ -25,6 +26,23 @@ fn sign_of(bit: u32) -> Turn
     if bit == 1 { Turn::Back } else { Turn::Forth }
 }
 
+// A line's step along its major axis.
+fn straight_of(octant: u32) -> Step
+    ensures { λ r. ⌜ r ≡ straightOf octant ⌝ }
+{
+    if octant % 2 == 1 {
+        Step {
+            x: Turn::Stay,
+            y: sign_of(octant / 2 % 2),
+        }
+    } else {
+        Step {
+            x: sign_of(octant / 4 % 2),
+            y: Turn::Stay,
+        }
+    }
+}
+
 // Whether a function reads: draw and step read, or line draw read.
 fn is_read(function: u32) -> bool
     ensures { λ r. ⌜ r ≡ eqb function 2 || eqb function 3 ⌝ }
@@ -41,7 +59,7 @@ fn course_of(operations: u32) -> Course
     Course {
         x: sign_of(octant / 4 % 2),
         y: sign_of(octant / 2 % 2),
-        steep: octant % 2 == 1,
+        straight: straight_of(octant),
         read: is_read(function),
         inverts: function == 9,
         bounds: mode_of(operations) == 3,

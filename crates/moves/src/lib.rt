@@ -24,19 +24,19 @@ pub struct Step {
     pub y: Turn,
 }
 
-// Which way a drawing goes: the octant's signs, whether Y is the major axis, whether it is a read form, whether it inverts, and
-// whether it draws an area boundary.
+// Which way a drawing goes: the octant's signs, a line's step along its major axis, whether it is a read form, whether it inverts,
+// and whether it draws an area boundary.
 pub struct Course {
     pub x: Turn,
     pub y: Turn,
-    pub steep: bool,
+    pub straight: Step,
     pub read: bool,
     pub inverts: bool,
     pub bounds: bool,
 }
 
-// How the pen comes to the next position: along a step, over a row's end, or not at all; and the drawing in hand there.
-// Along a step, source and pattern go by `from` and the destination by `to`.
+// How the pen comes to the next position: along a step of a line or code, to the next column of a row, over a row's end, or not at
+// all; and the drawing in hand there. Along a step, source and pattern go by `from` and the destination by `to`.
 pub(crate) enum Way {
     Along {
         from_x: Turn,
@@ -44,6 +44,9 @@ pub(crate) enum Way {
         to_x: Turn,
         to_y: Turn,
         e: i32,
+        drawing: Drawing,
+    },
+    Column {
         drawing: Drawing,
     },
     Row {
@@ -56,8 +59,8 @@ pub(crate) enum Way {
 
 // A map in which a pointer steps, and whether the drawing uses it.
 pub struct Ground {
-    pub used: bool,
     pub map: Map,
+    pub used: bool,
 }
 
 // What the moves need, which a drawing does not change: which way it goes, the maps of the source and pattern pointers, the

@@ -86,6 +86,47 @@ pub(crate) fn step_pen(
     }
 }
 
+// The pen at the next column of its row.
+pub(crate) fn pass_column(travel: Travel, drawing: Drawing, pen: Pen) -> Pen
+    requires { ⌜ pointersInside travel pen ≡ true ⌝ }
+    ensures { λ r. ⌜ r ≡ defined.columnPassed travel drawing pen ⌝ }
+{
+    let course = travel.course;
+    let across = course.x;
+    let source = Point {
+        x: turn_used(
+            travel.source.used,
+            across,
+            travel.source.map.width,
+            pen.pointers.source.x,
+        ),
+        y: pen.pointers.source.y,
+    };
+    let pattern = Point {
+        x: turn_used(
+            travel.pattern.used,
+            across,
+            travel.pattern.map.width,
+            pen.pointers.pattern.x,
+        ),
+        y: pen.pointers.pattern.y,
+    };
+    let destination = Spot {
+        x: circle_by(across, 1, pen.pointers.destination.x),
+        y: pen.pointers.destination.y,
+    };
+    let pointers = Pointers {
+        source,
+        pattern,
+        destination,
+    };
+    Pen {
+        pointers,
+        e: pen.e,
+        drawing,
+    }
+}
+
 // The pen with another drawing in hand.
 pub(crate) fn pen_with(drawing: Drawing, pen: Pen) -> Pen
     ensures { λ r. ⌜ r ≡ defined.penWith drawing pen ⌝ }

@@ -12,17 +12,12 @@ use rules::codes::direction_of;
 pub fn line_step(course: Course, e: i32) -> Step
     ensures { λ r. ⌜ r ≡ lineStep course e ⌝ }
 {
+    if e < 0 {
+        return course.straight;
+    }
     let x = course.x;
     let y = course.y;
-    if e < 0 {
-        if course.steep {
-            Step { x: Turn::Stay, y }
-        } else {
-            Step { x, y: Turn::Stay }
-        }
-    } else {
-        Step { x, y }
-    }
+    Step { x, y }
 }
 
 // The turn in Y of a direction; that in X is the one of two directions before.

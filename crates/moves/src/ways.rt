@@ -153,15 +153,8 @@ fn row_after(row: u16, last: u16) -> Drawing
 fn block_way(travel: Travel, column: u16, row: u16, inside: bool, pen: Pen) -> Way
     ensures { λ r. ⌜ wentBy travel r pen ≡ defined.blockMoved travel column row inside pen ⌝ }
 {
-    let course = travel.course;
-    let x = course.x;
     if column < travel.figure.dimensions.x {
-        Way::Along {
-            from_x: x,
-            from_y: Turn::Stay,
-            to_x: x,
-            to_y: Turn::Stay,
-            e: pen.e,
+        Way::Column {
             drawing: Drawing::Block {
                 column: column + 1,
                 row,

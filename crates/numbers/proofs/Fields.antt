@@ -1,10 +1,12 @@
 -- A field is what was put into it and no other field sees that: a number is its digits above, in and below the field.
-use mathlib.Core.Path.{_≡_, sym, ap, _∙_}
+use mathlib.Core.Path.{_≡_, refl, sym, ap, _∙_}
 use mathlib.Core.Logic.{_⊎_, inl, inr}
-use Prim.Native.Nat.{ℕ, zero, _+_, _-_, _*_, _/_, _%_, _^_, _≤_, _<_}
-use native.Mathlib.Nat.{le-trans, lt-of-lt-of-le, one-mul, mul-comm, mul-assoc, add-mul, mul-le-mul-right}
+use Prim.Native.Nat.{ℕ, zero, suc, _+_, _-_, _*_, _/_, _%_, _^_, _≤_, _<_}
+use native.Mathlib.Nat.{le-trans, lt-of-lt-of-le, one-mul, zero-mul, zero-add, add-zero, mul-comm, mul-assoc, add-mul, mul-le-mul-right}
 use native.Mathlib.Nat.{mod-lt, mod-le, mod-mod, mod-eq-of-lt, zero-mod, zero-div, div-mul-le-self, div-lt-iff-lt-mul}
 use native.Mathlib.Omega.{arith}
+use lib.Arith.{bin-ind}
+use lib.Bits.{bitXor, differ, xor-zero-r, xor-lt, xor-step, xor-block}
 use lib.Pow as pow
 use lib.Pow.{pow-pos, pow-mono, pow-add, shl-lt, shl-exact, shr-lt, shr-shr, split, high, low, mod-mod-pow}
 use Rattle.numbers.specs.Fields.{field, withField}
@@ -98,7 +100,43 @@ unfolding field
 with-field-self s n x =
     with-split s n (x / 2 ^ s % 2 ^ n) x ∙ rw (mod-mod, ← shr-shr, split (x / 2 ^ s) n, split x s)
 
--- the field's digits taken out, and others put in
-pub with-field-sum : (s n v x : ℕ) → withField s n v x ≡ x - field s n x * 2 ^ s + v % 2 ^ n * 2 ^ s
-unfolding withField
-with-field-sum s n v x = omega (arith, rw (mod-eq-of-lt (field-lt s n x)) at (with-field-self s n x))
+-- ---- what is xored twice stays
+
+differ-lt : (x y : ℕ) → x < 2 → y < 2 → differ x y < 2
+differ-lt zero y hx hy = hy
+differ-lt (suc zero) zero hx hy = hx
+differ-lt (suc zero) (suc y) hx hy = omega (arith, hy)
+differ-lt (suc (suc x)) y hx hy = absurd (omega (arith, hx))
+
+differ-twice : (x y : ℕ) → x < 2 → y < 2 → differ x (differ x y) ≡ y
+differ-twice zero y hx hy = refl
+differ-twice (suc zero) zero hx hy = refl
+differ-twice (suc zero) (suc zero) hx hy = refl
+differ-twice (suc zero) (suc (suc y)) hx hy = absurd (omega (arith, hy))
+differ-twice (suc (suc x)) y hx hy = absurd (omega (arith, hx))
+
+xor-twice : (a b : ℕ) → bitXor a (bitXor a b) ≡ b
+xor-twice = bin-ind (λ (n : ℕ). (b : ℕ) → bitXor n (bitXor n b) ≡ b) (λ b. refl) step
+  where
+    step : (n : ℕ) → ((b : ℕ) → bitXor (n / 2) (bitXor (n / 2) b) ≡ b) → (b : ℕ) → bitXor n (bitXor n b) ≡ b
+    step n ih b =
+        let below = differ-lt (n % 2) (b % 2) (omega arith) (omega arith) in
+        let halves : bitXor n b / 2 ≡ bitXor (n / 2) (b / 2) = omega (arith, xor-step n b, below) in
+        let lasts : bitXor n b % 2 ≡ differ (n % 2) (b % 2) = omega (arith, xor-step n b, below) in
+        xor-step n (bitXor n b) ∙ rw (halves, lasts, ih (b / 2), differ-twice (n % 2) (b % 2) (omega arith) (omega arith)) (omega arith)
+
+-- the digits of a field change in which it and what is put into it differ
+pub with-field-xor : (s n v x : ℕ) → bitXor x (bitXor (field s n x) (v % 2 ^ n) * 2 ^ s) ≡ withField s n v x
+with-field-xor s n v x =
+    let h = x / 2 ^ (s + n) in
+    let f = field s n x in
+    let w = v % 2 ^ n in
+    let whole : (h * 2 ^ n + f) * 2 ^ s + x % 2 ^ s ≡ x =
+    rw (mod-eq-of-lt (field-lt s n x)) at (sym (with-split s n f x) ∙ with-field-self s n x) in
+    let inner : bitXor (h * 2 ^ n + f) (bitXor f w) ≡ h * 2 ^ n + w =
+    rw (zero-mul (2 ^ n), zero-add (bitXor f w), xor-zero-r h, xor-twice f w) at
+    (xor-block n h 0 f (bitXor f w) (field-lt s n x) (xor-lt n f w (field-lt s n x) (mod-lt v (pow-pos n)))) in
+    ap (λ (y : ℕ). bitXor y (bitXor f w * 2 ^ s)) (sym whole)
+    ∙ rw (add-zero (bitXor f w * 2 ^ s), inner, xor-zero-r (x % 2 ^ s)) at
+    (xor-block s (h * 2 ^ n + f) (bitXor f w) (x % 2 ^ s) 0 (mod-lt x (pow-pos s)) (pow-pos s))
+    ∙ sym (with-split s n v x)

@@ -77,14 +77,14 @@ fn taken(byte: u8, shift: u32, bits: u32) -> u32
     ((byte as u32) >> shift) & mask(bits)
 }
 
-// A byte with other bits from a shift on: the old ones are taken out, and the low bits of value put in.
+// A byte with other bits from a shift on: those change in which the old ones and the low bits of value differ.
 fn replaced(byte: u8, shift: u32, bits: u32, value: u32) -> u8
     requires { ⌜ shift + bits ≤ 8 ⌝ }
     ensures { λ r. ⌜ r ≡ withField shift bits value byte ⌝ }
 {
     let old = taken(byte, shift, bits);
     let new = value & mask(bits);
-    ((byte as u32) - (old << shift) + (new << shift)) as u8
+    ((byte as u32) ^ ((old ^ new) << shift)) as u8
 }
 
 // The pixel's bits in its byte, which lies in the memory.

@@ -14,7 +14,7 @@ use Rattle.mixes.specs.Conditions.{holdsOf, conditionHolds}
 use Rattle.parts.specs.declared.drawing.Drawing.{Drawing}
 use Rattle.parts.specs.declared.drawing.Drawing.the-variants.{Line, Codes}
 use Rattle.rules.specs.Codes.{codeAt}
-use Rattle.moves.specs.declared.Turn.the-variants.{Forth}
+use Rattle.moves.specs.declared.Turn.the-variants.{Stay, Forth}
 use Rattle.moves.specs.declared.Pen.{Pen}
 use Rattle.places.specs.declared.Setup.{Setup}
 use Rattle.places.specs.Places.{isWithin, columnOf, placeX, onMap, maskX, maskY, inMask, isMove, isFirst, isLast, nulledBy, isNulled}
@@ -33,7 +33,7 @@ abbrev setup : (derived : Bool) (mask mode condition : ℕ) → Setup
 setup derived mask mode condition =
     record {
       travel = record {
-        course = record { x = Forth; y = Forth; steep = false; read = false; inverts = false; bounds = false };
+        course = record { x = Forth; y = Forth; straight = record { x = Forth; y = Stay }; read = false; inverts = false; bounds = false };
         source = record { used = derived; map = row };
         pattern = record { used = false; map = row };
         figure = record { operations = 0; steps = 0x20000000; dimensions = record { x = 0; y = 0 }; origin = record { x = 2; y = 0 } };

@@ -10,16 +10,18 @@ returns c = let sign = c .before .before .before in
     rw (
       c .mode-of .ensures,
       c .before .is-read .ensures,
-      c .before .before .sign-of2 .ensures,
-      sign .sign-of .ensures,
-      sign .before .octant-of .ensures,
-      sign .before .before .function-of .ensures,
+      c .before .before .straight-of .ensures,
+      sign .sign-of2 .ensures,
+      sign .before .sign-of .ensures,
+      sign .before .before .octant-of .ensures,
+      sign .before .before .before .function-of .ensures,
     )
 
 pub course-of-spec : {M : Type 1} → statement M
 course-of-spec =
     tie.close
     (tie.spec
+    (λ c κs. search needs)
     (λ c κs. search needs)
     (λ c κs. search needs)
     (λ c κs. search needs)

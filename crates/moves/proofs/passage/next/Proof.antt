@@ -1,4 +1,4 @@
--- `next` goes the way that leads to the definition's pen, whichever of the three it is.
+-- `next` goes the way that leads to the definition's pen, whichever it is.
 use mathlib.Core.Path.{_≡_, _∙_, sym, ap}
 use mir.Syntax.{w32}
 use mir.ValLaws.{toZ-ofZ}
@@ -18,6 +18,9 @@ known c e = ap (λ w. wentBy (c .before .args .travel) w (c .before .args .pen))
 step-pen-requires : tie.Need-step-pen-requires
 step-pen-requires c κs = c .before .before .before .before .pre
 
+pass-column-requires : tie.Need-pass-column-requires
+pass-column-requires c κs = c .before .before .before .before .pre
+
 pass-row-requires : tie.Need-pass-row-requires
 pass-row-requires c κs = c .before .before .before .before .pre
 
@@ -29,11 +32,15 @@ returns c =
 
 returns-2 : tie.Need-returns-2
 unfolding wentBy
-returns-2 c = c .pass-row .ensures ∙ known (c .before .before .before .before) (c .before .before .way2 .given .1)
+returns-2 c = c .pass-column .ensures ∙ known (c .before .before .before .before) (c .before .before .way2 .given .1)
 
 returns-3 : tie.Need-returns-3
 unfolding wentBy
-returns-3 c = c .pen-with .ensures ∙ known (c .before .before .before .before) (c .before .before .way3 .given .1)
+returns-3 c = c .pass-row .ensures ∙ known (c .before .before .before .before) (c .before .before .way3 .given .1)
+
+returns-4 : tie.Need-returns-4
+unfolding wentBy
+returns-4 c = c .pen-with .ensures ∙ known (c .before .before .before .before) (c .before .before .way4 .given .1)
 
 pub next-spec : {M : Type 1} → statement M
 next-spec =
@@ -43,9 +50,12 @@ next-spec =
     (λ c. search needs)
     step-pen-requires
     (λ c. search needs)
+    pass-column-requires
+    (λ c. search needs)
     pass-row-requires
     (λ c. search needs)
     (λ c κs. search needs)
     returns
     returns-2
-    returns-3)
+    returns-3
+    returns-4)
