@@ -22,7 +22,7 @@ use Rattle.rules.specs.Maps.{endHolds, formatHolds, mapAt}
 use Rattle.rules.specs.Operations.{draws, isBlock, isCodes, isFill, isLine, isMap, modeOf, sourceIsColour, usesMask, usesPattern, usesSource}
 use Rattle.rules.specs.Rules.{endsHold, fieldsHold, formatsHold, isPattern, isSource, mixesHold, startRefusal, usedMaps}
 use Rattle.rules.specs.Starts.{drawingStarted, pointersStarted}
-use Rattle.moves.specs.Decoded.{courseOf, signOf, travelOf}
+use Rattle.moves.specs.Decoded.{courseOf, signOf, straightOf, travelOf}
 use Rattle.moves.specs.Moves.{destinationBy, lineError, lineMoved, moved, movedBy, penGone, penStepped, penWith, rises, sourceBy}
 use Rattle.moves.specs.Steps.{lineStep}
 use Rattle.moves.specs.Turns.{circledBy, pointStepped, spotStepped, turnedBy}
@@ -48,7 +48,7 @@ unfolding numberOf byteOf covers latchedBytes latched forth residue circle field
     withPixel holdsOf conditionHolds tableBit logical merged mixed touched taken mapReduced termReduced termsReduced pointReduced
     destinationReduced spotReduced registers among listed placed countersHold pointersHold mapAt formatHolds endHolds isMap isLine isCodes
     isBlock draws sourceIsColour usesSource usesPattern usesMask isSource isPattern fieldsHold mixesHold usedMaps formatsHold endsHold
-    startRefusal codeAt drawingStarted signOf courseOf flowOf sourceBy destinationBy penStepped penWith penGone lineError lineMoved movedBy
+    startRefusal codeAt drawingStarted signOf straightOf courseOf flowOf sourceBy destinationBy penStepped penWith penGone lineError lineMoved movedBy
     moved lineStep turnedBy circledBy pointStepped spotStepped isForeground inkOf picked mixedPixel drawnBy drawn destinationPixel onZero
     isCompared fateOf isWithin columnOf onMap maskX maskY inMask isMove isFirst isLast nulledBy isNulled begun positioned stepped after
     sizeHolds freshOf setupOf penOf withPen ranOf runRefusal runAnswer runMemory startRefusalOf mapsReduced pointersReduced reducedOf goesOn

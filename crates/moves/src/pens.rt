@@ -4,7 +4,7 @@ ghost use Prim.Native.Nat.{_≤_};
 ghost use Rattle.numbers.specs.Choose.{choose};
 ghost use Rattle.moves.specs.Turns as turned;
 ghost use Rattle.moves.specs.Moves as defined;
-ghost use Rattle.moves.specs.Inner.{pointersInside};
+ghost use Rattle.moves.specs.Inner.{pointersInside, destinationStepped};
 use crate::Course;
 use crate::Pen;
 use crate::Travel;
@@ -28,7 +28,7 @@ fn turn_used(used: bool, turn: Turn, last: u16, x: u16) -> u16
 
 // The pen with its used pointers stepped, source and pattern by `from` and the destination by `to`. Each pointer's two
 // parts go by themselves, so that a loop over positions need not pack them.
-pub(crate) fn step_pen(
+fn step_all(
     travel: Travel,
     from_x: Turn,
     from_y: Turn,
@@ -83,6 +83,56 @@ pub(crate) fn step_pen(
         pointers,
         e,
         drawing,
+    }
+}
+
+// The pen with its destination stepped, and nothing else.
+fn step_destination(x: Turn, y: Turn, e: i32, drawing: Drawing, pen: Pen) -> Pen
+    ensures { λ r. ⌜ r ≡ destinationStepped (record { x = x; y = y }) e drawing pen ⌝ }
+{
+    let source = Point {
+        x: pen.pointers.source.x,
+        y: pen.pointers.source.y,
+    };
+    let pattern = Point {
+        x: pen.pointers.pattern.x,
+        y: pen.pointers.pattern.y,
+    };
+    let destination = Spot {
+        x: circle_by(x, 1, pen.pointers.destination.x),
+        y: circle_by(y, 1, pen.pointers.destination.y),
+    };
+    let pointers = Pointers {
+        source,
+        pattern,
+        destination,
+    };
+    Pen {
+        pointers,
+        e,
+        drawing,
+    }
+}
+
+// The pen with its used pointers stepped; most lines and codes use the destination alone, so that is asked first.
+pub(crate) fn step_pen(
+    travel: Travel,
+    from_x: Turn,
+    from_y: Turn,
+    to_x: Turn,
+    to_y: Turn,
+    e: i32,
+    drawing: Drawing,
+    pen: Pen,
+) -> Pen
+    requires { ⌜ pointersInside travel pen ≡ true ⌝ }
+    ensures { λ r.
+        ⌜ r ≡ defined.penStepped travel (record { x = «from_x»; y = «from_y» }) (record { x = «to_x»; y = «to_y» }) e drawing pen ⌝ }
+{
+    if travel.source.used | travel.pattern.used {
+        step_all(travel, from_x, from_y, to_x, to_y, e, drawing, pen)
+    } else {
+        step_destination(to_x, to_y, e, drawing, pen)
     }
 }
 
