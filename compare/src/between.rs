@@ -1,12 +1,13 @@
 //! What a fitter may do between two runs of a drawing: reads, and calls that are refused, none of which changes anything.
 
+use crate::board::IMAGE;
 use crate::calls;
 use crate::damage;
 use crate::memories::Memories;
 use crate::others::Others;
 use crate::pair::Pair;
+use crate::random::Random;
 use crate::report;
-use model::random::Random;
 use std::fmt;
 
 /// The kinds of what is done.
@@ -29,7 +30,7 @@ const ACTS: [(Act, &str, &[u32]); 5] = [
 ];
 
 /// Lengths that no image has.
-const WRONG_LENGTHS: [u32; 5] = [0, 1, 114, 116, 230];
+const WRONG_LENGTHS: [usize; 5] = [0, 1, IMAGE - 1, IMAGE + 1, 2 * IMAGE];
 
 /// How often each kind was answered with each of its numbers.
 #[derive(Default)]
@@ -117,8 +118,8 @@ impl<'a> Between<'a> {
 
     /// A save into a buffer of a wrong length.
     fn save(&mut self, pair: &mut Pair, memories: &mut Memories) -> Result<u32, String> {
-        let length = self.random.pick(&WRONG_LENGTHS) as usize;
-        pair.save_misfit(length, memories)
+        let place = self.random.below(WRONG_LENGTHS.len() as u32) as usize;
+        pair.save_misfit(WRONG_LENGTHS[place], memories)
     }
 }
 

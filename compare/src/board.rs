@@ -1,7 +1,6 @@
 //! The proved coprocessor, as the static library exports it: every call works on a state image.
 
-/// The bytes of a state image.
-pub const IMAGE: usize = 115;
+pub use model::image::LENGTH as IMAGE;
 
 mod exported {
     extern "C" {

@@ -1,7 +1,7 @@
 //! Random arguments of calls: places, writes of every kind, allowances, and wrong lengths of a memory.
 
-use model::random::Random;
-use model::random_drawings::Write;
+use crate::random::Random;
+use crate::writes::{self, Write};
 
 /// A place that is most often of a listed register, and sometimes any.
 pub fn place(random: &mut Random) -> (u32, u32) {
@@ -30,7 +30,7 @@ pub fn write(random: &mut Random) -> Write {
         _ => word & random.word() & random.word(),
     };
     if random.once_in(6) {
-        return (0x7C, 4, operations(random));
+        return writes::operations(operations(random));
     }
     (offset, length, value)
 }
@@ -58,7 +58,7 @@ pub fn codes(random: &mut Random) -> Write {
     if random.once_in(4) {
         codes &= !(0xFF << (8 * random.below(4)));
     }
-    (0x30 - length, length, codes)
+    writes::codes(length, codes)
 }
 
 /// An allowance, most often small and sometimes 0.

@@ -1,8 +1,8 @@
 //! Random damage to a state image.
 
 use crate::board::IMAGE;
+use crate::random::Random;
 use model::image;
-use model::random::Random;
 
 /// Changes some bytes, or takes a run of bytes from another image, or changes the length.
 pub fn damage(random: &mut Random, image: &mut Vec<u8>, other: &[u8]) {

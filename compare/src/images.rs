@@ -3,13 +3,13 @@
 use crate::damage;
 use crate::memories::Memories;
 use crate::others::Others;
+use crate::random::Random;
 use crate::report;
 use crate::rules::{self, Rule};
 use crate::shelf::Shelf;
 use crate::states::is_inside;
 use model::coprocessor::is_within_limit;
 use model::image;
-use model::random::Random;
 use model::Coprocessor;
 use std::fmt;
 
@@ -105,19 +105,21 @@ impl Images<'_> {
     }
 
     /// Whether both take the image, in a coprocessor with another size and another drawing; they then save it as it was.
-    fn is_taken(&mut self, image: &[u8]) -> Result<bool, String> {
-        let size = image.get(5..9).and_then(|size| size.try_into().ok());
-        let size = size.map_or(0, u32::from_le_bytes);
+    fn is_taken(&mut self, bytes: &[u8]) -> Result<bool, String> {
+        let size = match bytes.len() >= image::SIZE.end {
+            true => image::get(bytes, image::SIZE),
+            false => 0,
+        };
         if is_within_limit(size) {
             self.memories.set_length(self.random, size);
         }
         let mut pair = self.others.of_another_size(self.random, size).clone();
-        if pair.load(image, &mut self.memories)? != 0 {
+        if pair.load(bytes, &mut self.memories)? != 0 {
             return Ok(false);
         }
         let answer = pair.run(&mut self.memories, 0)?;
-        if answer != (0, 0) || pair.save()? != image {
-            return Err(format!("loaded and saved: {answer:?}, {image:02X?}"));
+        if answer != (0, 0) || pair.save()? != bytes {
+            return Err(format!("loaded and saved: {answer:?}, {bytes:02X?}"));
         }
         pair.run(&mut self.memories, POSITIONS)?;
         Ok(true)

@@ -1,7 +1,7 @@
 //! A memory held twice, one copy lent to the proved code and one to the independent program.
 
 use crate::guarded::Guarded;
-use model::random::Random;
+use crate::random::Random;
 
 /// The two copies; that of the proved code stands between guard bytes.
 #[derive(Clone, Debug)]

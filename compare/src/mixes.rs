@@ -1,7 +1,7 @@
 //! Mixes and compare conditions: every case of small pixels, and random ones of 8 bits.
 
 use crate::leaves;
-use model::random::Random;
+use crate::random::Random;
 
 const CODES: u32 = 22;
 const CONDITIONS: u32 = 8;

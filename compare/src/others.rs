@@ -2,9 +2,9 @@
 
 use crate::memories::Memories;
 use crate::pair::Pair;
+use crate::random::Random;
 use crate::states;
 use model::image;
-use model::random::Random;
 
 const COUNT: usize = 24;
 

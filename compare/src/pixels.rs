@@ -1,7 +1,7 @@
 //! Pixels in memory: the proved code and the independent program on random maps and memories.
 
 use crate::leaves::{self, Map};
-use model::random::Random;
+use crate::random::Random;
 
 const GUARD: usize = 16;
 

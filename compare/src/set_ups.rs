@@ -1,11 +1,12 @@
 //! Random set-ups: states with all registers for a drawing, and the write that then starts it.
 
+use crate::random::Random;
+use crate::random_drawings::{self, FUNCTIONS};
+use crate::writes::Write;
 use model::coprocessor::SIZE_LIMIT;
 use model::image;
 use model::operations::Operations;
 use model::pixels;
-use model::random::Random;
-use model::random_drawings::{self, Write, FUNCTIONS};
 use model::{Coprocessor, Map};
 
 /// A state that is all set up for a drawing, and the write that then starts it.
@@ -44,25 +45,12 @@ fn after_writes(size: u32, writes: &[Write]) -> Coprocessor {
     let (fresh, _) = Coprocessor::fresh(size);
     let mut bytes = image::of(&fresh);
     for (offset, length, value) in writes {
-        let first = place_in_image(*offset, bytes[15]);
+        let map = usize::from(bytes[image::MAP_INDEX_AT]);
+        let first = image::place(map, *offset).expect("a set-up writes listed registers");
         let length = *length as usize;
         bytes[first..first + length].copy_from_slice(&value.to_le_bytes()[..length]);
     }
     image::loaded(&bytes).expect("a set-up writes reduced values")
-}
-
-/// 01, State image: where the byte of a register lies while a map is selected.
-fn place_in_image(offset: u32, map: u8) -> usize {
-    let offset = offset as usize;
-    match offset {
-        0x12 => 15,
-        0x14..=0x1C => 16 + 9 * usize::from(map) + offset - 0x14,
-        0x20..=0x2F => 52 + offset - 0x20,
-        0x48..=0x4A => 68 + offset - 0x48,
-        0x4C..=0x63 => 71 + offset - 0x4C,
-        0x6C..=0x7F => 95 + offset - 0x6C,
-        _ => unreachable!("a set-up writes listed registers"),
-    }
 }
 
 /// Gives the state another size, maps of other sides and places in it, and another part of the destination to draw.

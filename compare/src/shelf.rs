@@ -1,8 +1,8 @@
 //! States at hand: any, and as many again that are drawing and inside.
 
+use crate::random::Random;
 use crate::states::{self, is_inside};
 use model::image;
-use model::random::Random;
 use model::Coprocessor;
 
 const COUNT: usize = 64;

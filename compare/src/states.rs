@@ -1,10 +1,11 @@
 //! Random states: idle, after a stop, and drawings of every function partly done, in memories of many sizes.
 
 use crate::calls;
+use crate::random::Random;
 use crate::set_ups;
 use model::codes::{self, Code};
 use model::coprocessor::SIZE_LIMIT;
-use model::random::Random;
+use model::image;
 use model::{Coprocessor, Drawing};
 
 /// A state above this size is not run but put at counters of its own.
@@ -30,8 +31,8 @@ pub fn any(random: &mut Random) -> Coprocessor {
 }
 
 /// Whether the image is of state 3, a drawing that is inside.
-pub fn is_inside(image: &[u8]) -> bool {
-    image.get(9) == Some(&3)
+pub fn is_inside(bytes: &[u8]) -> bool {
+    bytes.get(image::STATE_AT) == Some(&image::DRAWING_INSIDE)
 }
 
 /// The indexes of the maps that the stored operations use: destination, then source, pattern and mask map where used.

@@ -6,27 +6,35 @@ use crate::drawing::Drawing;
 use crate::operations::Kind;
 use crate::registers::Registers;
 use crate::start;
+use std::ops::{Range, RangeInclusive};
 
 /// The bytes of an image.
 pub const LENGTH: usize = 115;
 
-/// A number in the image: its first byte and its bytes.
-struct Part {
-    at: usize,
-    length: usize,
-}
+/// The mark XGS.
+pub const MARK: Range<usize> = 0..3;
+/// The version.
+pub const VERSION: Range<usize> = 3..5;
+/// The memory's size.
+pub const SIZE: Range<usize> = 5..9;
+/// The state: idle, drawing, idle after a stop, or drawing and inside.
+pub const STATE_AT: usize = 9;
+/// All counters of the drawing in hand, which are the next three.
+pub const COUNTERS: Range<usize> = POSITIONS_DONE.start..CODES_AT + 1;
+/// Positions done in this row, line or code.
+pub const POSITIONS_DONE: Range<usize> = 10..12;
+/// Rows or codes done.
+pub const ROWS_OR_CODES_DONE: Range<usize> = 12..14;
+/// Codes in the starting write.
+pub const CODES_AT: usize = 14;
+/// The map index.
+pub const MAP_INDEX_AT: usize = 15;
 
-const MARK: Part = Part { at: 0, length: 3 };
-const VERSION: Part = Part { at: 3, length: 2 };
-const SIZE: Part = Part { at: 5, length: 4 };
-const STATE: Part = Part { at: 9, length: 1 };
-const POSITIONS_DONE: Part = Part { at: 10, length: 2 };
-const ROWS_OR_CODES_DONE: Part = Part { at: 12, length: 2 };
-const CODES: Part = Part { at: 14, length: 1 };
-
-const MAP_INDEX_AT: usize = 15;
 const MAPS_AT: usize = 16;
 const MAP_BYTES: usize = 9;
+
+/// The registers that each map has of its own.
+const MAP_OFFSETS: RangeInclusive<u32> = 0x14..=0x1C;
 
 /// Runs of registers: the first byte in the image, the first and the last register offset.
 const RUNS: [(usize, u32, u32); 4] = [
@@ -39,18 +47,18 @@ const RUNS: [(usize, u32, u32); 4] = [
 const XGS: u32 = u32::from_le_bytes([b'X', b'G', b'S', 0]);
 const VERSION_1: u32 = 1;
 
-const IDLE: u32 = 0;
-const DRAWING: u32 = 1;
-const STOPPED: u32 = 2;
+const IDLE: u8 = 0;
+const DRAWING: u8 = 1;
+const STOPPED: u8 = 2;
 /// 02, 102: drawing, and inside or after a step that an area boundary looks back at.
-const DRAWING_INSIDE: u32 = 3;
+pub const DRAWING_INSIDE: u8 = 3;
 
 /// Bytes 9 to 14.
 struct Counters {
-    state: u32,
+    state: u8,
     positions_done: u32,
     rows_or_codes_done: u32,
-    codes: u32,
+    codes: u8,
 }
 
 impl Counters {
@@ -67,10 +75,10 @@ pub fn of(coprocessor: &Coprocessor) -> [u8; LENGTH] {
     put(&mut bytes, VERSION, VERSION_1);
     put(&mut bytes, SIZE, coprocessor.size);
     let counters = counters_of(&coprocessor.drawing);
-    put(&mut bytes, STATE, counters.state);
+    bytes[STATE_AT] = counters.state;
     put(&mut bytes, POSITIONS_DONE, counters.positions_done);
     put(&mut bytes, ROWS_OR_CODES_DONE, counters.rows_or_codes_done);
-    put(&mut bytes, CODES, counters.codes);
+    bytes[CODES_AT] = counters.codes;
     for (at, map, offset) in register_bytes() {
         bytes[at] = coprocessor.registers.byte(map, offset).unwrap_or(0);
     }
@@ -86,10 +94,10 @@ pub fn loaded(bytes: &[u8]) -> Option<Coprocessor> {
     }
     let size = get(bytes, SIZE);
     let counters = Counters {
-        state: get(bytes, STATE),
+        state: bytes[STATE_AT],
         positions_done: get(bytes, POSITIONS_DONE),
         rows_or_codes_done: get(bytes, ROWS_OR_CODES_DONE),
-        codes: get(bytes, CODES),
+        codes: bytes[CODES_AT],
     };
 
     let accepted = get(bytes, MARK) == XGS
@@ -113,13 +121,25 @@ pub fn loaded(bytes: &[u8]) -> Option<Coprocessor> {
     })
 }
 
+/// Where the byte of a register lies while a map is selected, if a register is listed there.
+pub fn place(map: usize, offset: u32) -> Option<usize> {
+    let map = if MAP_OFFSETS.contains(&offset) {
+        map
+    } else {
+        0
+    };
+    register_bytes()
+        .find(|(_, of, byte)| (*of, *byte) == (map, offset))
+        .map(|(at, _, _)| at)
+}
+
 /// Where each register byte of the image lies: its place in the image, its map and its register offset.
 fn register_bytes() -> impl Iterator<Item = (usize, usize, u32)> {
     let index = [(MAP_INDEX_AT, 0, 0x12)];
     let maps = (0..4).flat_map(|map| {
         let first = MAPS_AT + map * MAP_BYTES;
         (first..first + MAP_BYTES)
-            .zip(0x14..)
+            .zip(MAP_OFFSETS)
             .map(move |(at, offset)| (at, map, offset))
     });
     let runs = RUNS
@@ -146,12 +166,12 @@ fn counters_of(drawing: &Drawing) -> Counters {
         state,
         positions_done: u32::from(positions_done),
         rows_or_codes_done: u32::from(rows_or_codes_done),
-        codes: u32::from(codes),
+        codes,
     }
 }
 
 /// The state of a drawing with its bit.
-fn drawing_state(bit: bool) -> u32 {
+fn drawing_state(bit: bool) -> u8 {
     if bit {
         DRAWING_INSIDE
     } else {
@@ -178,7 +198,7 @@ fn drawing_at(registers: &Registers, size: u32, counters: &Counters, bit: bool) 
             inside: bit,
         },
         Kind::Codes => Drawing::Codes {
-            count: counters.codes as u8,
+            count: counters.codes,
             code: rows_or_codes_done,
             done,
         },
@@ -215,12 +235,14 @@ fn codes_are_right(registers: &Registers, drawing: &Drawing) -> bool {
     }
 }
 
-fn put(bytes: &mut [u8; LENGTH], part: Part, number: u32) {
-    bytes[part.at..part.at + part.length].copy_from_slice(&number.to_le_bytes()[..part.length]);
+fn put(bytes: &mut [u8; LENGTH], part: Range<usize>, number: u32) {
+    let length = part.len();
+    bytes[part].copy_from_slice(&number.to_le_bytes()[..length]);
 }
 
-fn get(bytes: &[u8; LENGTH], part: Part) -> u32 {
-    bytes[part.at..part.at + part.length]
+/// The number that a part of the bytes is, the lowest byte first.
+pub fn get(bytes: &[u8], part: Range<usize>) -> u32 {
+    bytes[part]
         .iter()
         .rfold(0, |number, byte| number << 8 | u32::from(*byte))
 }

@@ -8,7 +8,8 @@ use std::fmt;
 
 /// What a position takes the pixel's map for.
 #[derive(Clone, Copy, Debug)]
-pub(crate) enum Role {
+#[allow(missing_docs)]
+pub enum Role {
     Source,
     Pattern,
     Mask,
@@ -38,7 +39,7 @@ fn must_lie_within(role: Role, map: &Map, (x, y): (u32, u32), memory: &[u8]) {
 /// Panics, naming the pixel and the bytes of the memory.
 #[cold]
 #[inline(never)]
-pub(crate) fn fail(role: Role, (x, y): (u32, u32), memory_length: usize) -> ! {
+pub fn fail(role: Role, (x, y): (u32, u32), memory_length: usize) -> ! {
     panic!("the {role} pixel ({x}, {y}) reaches beyond a memory of {memory_length} bytes")
 }
 
@@ -56,7 +57,7 @@ impl fmt::Display for Role {
 #[cfg(test)]
 mod tests {
     use super::*;
-    use crate::{fast, Coprocessor};
+    use crate::Coprocessor;
 
     const MASK: u32 = 0;
     const DESTINATION: u32 = 1;
@@ -96,12 +97,8 @@ mod tests {
     }
 
     /// A run refuses the memory with 9, so only the loop inside it can be lent one that is too short.
-    fn draw_clear(reaching: u32) {
+    fn draw(reaching: u32) {
         started(reaching).draw(&mut [0xFF; LENT], u32::MAX);
-    }
-
-    fn draw_fast(reaching: u32) {
-        fast::draw(&mut started(reaching), &mut [0xFF; LENT], u32::MAX);
     }
 
     #[test]
@@ -119,48 +116,24 @@ mod tests {
     #[test]
     #[should_panic(expected = "the source pixel (3, 0) reaches beyond a memory of 16 bytes")]
     fn a_source_pixel_beyond_fails_loudly() {
-        draw_clear(SOURCE);
-    }
-
-    #[test]
-    #[should_panic(expected = "the source pixel (3, 0) reaches beyond a memory of 16 bytes")]
-    fn a_source_pixel_beyond_fails_loudly_in_the_fast_runner() {
-        draw_fast(SOURCE);
+        draw(SOURCE);
     }
 
     #[test]
     #[should_panic(expected = "the pattern pixel (0, 1) reaches beyond a memory of 16 bytes")]
     fn a_pattern_pixel_beyond_fails_loudly() {
-        draw_clear(PATTERN);
-    }
-
-    #[test]
-    #[should_panic(expected = "the pattern pixel (0, 1) reaches beyond a memory of 16 bytes")]
-    fn a_pattern_pixel_beyond_fails_loudly_in_the_fast_runner() {
-        draw_fast(PATTERN);
+        draw(PATTERN);
     }
 
     #[test]
     #[should_panic(expected = "the mask pixel (0, 1) reaches beyond a memory of 16 bytes")]
     fn a_mask_pixel_beyond_fails_loudly() {
-        draw_clear(MASK);
-    }
-
-    #[test]
-    #[should_panic(expected = "the mask pixel (0, 1) reaches beyond a memory of 16 bytes")]
-    fn a_mask_pixel_beyond_fails_loudly_in_the_fast_runner() {
-        draw_fast(MASK);
+        draw(MASK);
     }
 
     #[test]
     #[should_panic(expected = "the destination pixel (3, 0) reaches beyond a memory of 16 bytes")]
     fn a_destination_pixel_beyond_fails_loudly() {
-        draw_clear(DESTINATION);
-    }
-
-    #[test]
-    #[should_panic(expected = "the destination pixel (3, 0) reaches beyond a memory of 16 bytes")]
-    fn a_destination_pixel_beyond_fails_loudly_in_the_fast_runner() {
-        draw_fast(DESTINATION);
+        draw(DESTINATION);
     }
 }

@@ -175,7 +175,7 @@ impl Registers {
     }
 
     /// Stores the byte at `offset` while `map` is selected, without a reduction.
-    pub(crate) fn take_byte(&mut self, map: usize, offset: u32, byte: u8) {
+    pub fn take_byte(&mut self, map: usize, offset: u32, byte: u8) {
         if let Some((register, place)) = register_at(offset) {
             let others = self.stored(map, register) & !(0xFF << (8 * place));
             self.store(map, register, others | u32::from(byte) << (8 * place));

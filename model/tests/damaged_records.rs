@@ -4,7 +4,7 @@ mod common;
 
 use common::states::unfinished;
 use common::{line_at, Board, FILL_BEGUN, IDLE};
-use model::{fast, Coprocessor, Drawing};
+use model::{Coprocessor, Drawing};
 
 /// Damage that leaves a record which its own image would not load to.
 const DAMAGE: [fn(&mut Coprocessor); 40] = [
@@ -135,9 +135,8 @@ fn refusal_10_every_call_but_load_on_a_damaged_record() {
             assert_eq!(refusal, if is_unfinished { 2 } else { 10 }, "{number}");
             assert_eq!(damaged.coprocessor.read(0x58, 4), (10, 0));
             let mut memory = vec![0; damaged.coprocessor.size as usize];
-            assert_eq!(damaged.coprocessor.run(&mut memory, 9), (10, 0));
-            let fast = fast::run(&mut damaged.coprocessor, &mut memory, 9);
-            assert_eq!(fast, (10, 0), "{number}");
+            let answer = damaged.coprocessor.run(&mut memory, 9);
+            assert_eq!(answer, (10, 0), "{number}");
             let mut buffer = [7; 115];
             assert_eq!(damaged.coprocessor.save(&mut buffer), 10);
             assert_eq!(buffer, [7; 115]);

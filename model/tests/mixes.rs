@@ -1,7 +1,6 @@
 //! Mixes and compare conditions on one pixel (01, One position).
 
 use model::mixes::{holds, mix};
-use model::random::Random;
 
 /// Bit 0 of a logical mix's code stands for S and D, bit 1 for S and not D, bit 2 for not S and D, bit 3 for neither.
 fn logical_by_truth_table(code: u32, s: u32, d: u32) -> u32 {
@@ -76,6 +75,12 @@ fn arithmetic_in_place(code: u32, full: u32, m: u32, s: u32, d: u32) -> u32 {
     mixed | d & !m
 }
 
+/// Every mask of 8 bits, with sources and destinations all over their range.
+fn spread() -> impl Iterator<Item = [u32; 3]> {
+    let pixels = |step| (0..256).step_by(step);
+    (0..256).flat_map(move |m| pixels(13).flat_map(move |s| pixels(11).map(move |d| [m, s, d])))
+}
+
 #[test]
 fn gathered_arithmetic_agrees_with_arithmetic_in_place() {
     for m in 0..16 {
@@ -92,9 +97,7 @@ fn gathered_arithmetic_agrees_with_arithmetic_in_place() {
             }
         }
     }
-    let mut random = Random::new(1);
-    for _ in 0..20_000 {
-        let [m, s, d] = [(); 3].map(|()| random.below(256));
+    for [m, s, d] in spread() {
         for code in 0x10..0x15 {
             let expected = arithmetic_in_place(code, 255, m, s, d);
             assert_eq!(
@@ -108,9 +111,7 @@ fn gathered_arithmetic_agrees_with_arithmetic_in_place() {
 
 #[test]
 fn masked_bits_of_the_destination_stay() {
-    let mut random = Random::new(2);
-    for _ in 0..20_000 {
-        let [m, s, d] = [(); 3].map(|()| random.below(256));
+    for [m, s, d] in spread() {
         for code in 0..0x16 {
             assert_eq!(mix(code, 8, m, s, d) & !m, d & !m);
         }

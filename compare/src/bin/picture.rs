@@ -2,15 +2,8 @@
 //!
 //! usage: picture FILE
 
-#[path = "../board.rs"]
-#[allow(dead_code)]
-mod board;
-#[path = "../picture/loom.rs"]
-mod loom;
-#[path = "../picture/motif.rs"]
-mod motif;
-
-use loom::Loom;
+use compare::picture::loom::Loom;
+use compare::picture::motif;
 use std::process::ExitCode;
 
 fn main() -> ExitCode {

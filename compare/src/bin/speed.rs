@@ -2,21 +2,9 @@
 //!
 //! The fast runner has no writes of its own, so that where they are timed its writes are the clear program's.
 
-#[path = "../board.rs"]
-#[allow(dead_code)]
-mod board;
-#[path = "../speed/race.rs"]
-mod race;
-#[path = "../speed/runners.rs"]
-mod runners;
-#[path = "../speed/workloads.rs"]
-mod workloads;
-#[path = "../speed/writes.rs"]
-mod writes;
-
-use race::Best;
+use compare::speed::race::{self, Best};
+use compare::speed::workloads::{self, Beside, Workload};
 use std::time::Duration;
-use workloads::{Beside, Workload};
 
 fn main() {
     println!(

@@ -4,8 +4,8 @@ use super::counts::Loads;
 use crate::memories::Memories;
 use crate::others::Others;
 use crate::pair::Pair;
-use model::random::Random;
-use model::random_drawings::RandomDrawing;
+use crate::random::Random;
+use crate::random_drawings::RandomDrawing;
 
 /// A state and its memory.
 #[derive(Clone)]

@@ -3,8 +3,8 @@
 use super::areas::Areas;
 use crate::between;
 use crate::pair::Pair;
+use crate::random_drawings::FUNCTIONS;
 use model::operations::Kind;
-use model::random_drawings::FUNCTIONS;
 use model::Coprocessor;
 use std::fmt;
 

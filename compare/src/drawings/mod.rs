@@ -9,10 +9,10 @@ mod counts;
 use crate::between::Between;
 use crate::others::Others;
 use crate::panics;
+use crate::random::Random;
+use crate::random_drawings::{self, RandomDrawing, FUNCTIONS};
 use board::Board;
 use counts::{Counts, Loads};
-use model::random::Random;
-use model::random_drawings::{self, RandomDrawing, FUNCTIONS};
 
 /// The most positions of a drawing that is cut at every one of them.
 const LONGEST_CUT: u32 = 64;

@@ -1,7 +1,6 @@
 //! The edges of an outline.
 
-/// A pixel, which may lie outside the map.
-pub type Point = (i64, i64);
+pub use crate::writes::Point;
 
 /// An edge from one point to another, with its direction.
 #[derive(Clone, Copy, Debug)]

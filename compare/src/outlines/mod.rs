@@ -9,10 +9,10 @@ mod shapes;
 mod station;
 
 use crate::panics;
+use crate::random::Random;
 use counts::Counts;
 use edges::{Edge, Point};
 use map::Map;
-use model::random::Random;
 use shapes::{Outline, Stroke, MEANS};
 use station::{Manner, Station};
 

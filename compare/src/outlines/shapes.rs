@@ -1,8 +1,8 @@
 //! Random closed outlines, by lines, by codes or by both, inside a map or cut by its edges.
 
 use super::edges::{Edge, Point};
+use crate::random::Random;
 use model::codes::DIRECTIONS;
-use model::random::Random;
 
 /// The most steps of a code.
 pub const LONGEST_CODE: i64 = 15;

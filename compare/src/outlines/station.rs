@@ -1,23 +1,22 @@
 //! An outline drawn and filled through the proved library's calls, as a design station would.
 
-use super::edges::{Edge, Point};
+use super::edges::Edge;
 use super::shapes::Stroke;
 use crate::board::{self, IMAGE};
 use crate::guarded::Guarded;
+use crate::random::Random;
+use crate::writes::{
+    self, Point, Write, BITS_1, BOUNDARY, CODES, LINE, MIX_DESTINATION, MIX_SOURCE, MIX_XOR,
+};
 use model::codes::DIRECTIONS;
-use model::random::Random;
 
-/// Map A, which is filled, and map B, which has the outline.
+/// The mask map, map A, which is filled, and map B, which has the outline.
+const MASK: u32 = 0;
 const FILLED: u32 = 1;
 const OUTLINE: u32 = 2;
 
-const MIX_SOURCE: u32 = 0x3;
-const MIX_DESTINATION: u32 = 0x5;
-const MIX_XOR: u32 = 0x6;
-
-/// Codes and lines into map B, in the colour of the foreground, as an area boundary.
-const CODES: u32 = 0x0402_8030;
-const LINE: u32 = 0x0502_8030;
+/// What codes and lines are drawn as.
+const OUTLINED: u32 = OUTLINE << 16 | BOUNDARY;
 
 /// A fill of map A by map B, and of map B by itself.
 const FILL: u32 = 0x0A01_2000;
@@ -78,58 +77,51 @@ impl Station {
             0 => {}
             refusal => return Err(format!("fresh {}: {refusal}", memory.len())),
         }
-        for (map, base, format) in [(FILLED, filled_at as u32, format), (OUTLINE, 0, 0)] {
-            station.write(0x12, 1, map)?;
-            station.write(0x14, 4, base)?;
-            station.write(0x18, 4, pair((size.0 - 1, size.1 - 1)))?;
-            station.write(0x1C, 1, format)?;
-        }
-        station.write(0x4A, 1, 4)?;
-        station.write(0x48, 1, MIX_XOR)?;
-        station.write(0x50, 4, 1)?;
-        station.write(0x58, 4, 1)?;
+        station.write(&writes::map(FILLED, filled_at as u32, size, format))?;
+        station.write(&writes::map(OUTLINE, 0, size, BITS_1))?;
+        station.write(&[
+            writes::no_compare(),
+            writes::mixes(MIX_XOR, 0),
+            writes::planes(1),
+            writes::foreground(1),
+        ])?;
         Ok(station)
     }
 
     /// Begins a loop at a point.
     pub fn begin(&mut self, at: Point) -> Result<(), String> {
-        self.write(0x78, 4, pair(at))
+        self.write(&[writes::destination(at)])
     }
 
     /// A line from where the last one ended, by 003's terms.
     pub fn line(&mut self, edge: &Edge) -> Result<(), String> {
-        let (a, b) = (edge.larger(), edge.smaller());
-        let (right, down) = edge.differences();
-        let octant = u32::from(right < 0) << 2 | u32::from(down < 0) << 1;
-        self.write(0x20, 4, (2 * b - a) as u32)?;
-        self.write(0x24, 4, (2 * b) as u32)?;
-        self.write(0x28, 4, (2 * (b - a)) as u32)?;
-        self.write(0x60, 2, a as u32)?;
-        self.write(0x7C, 4, LINE | octant | u32::from(edge.is_y_major()))?;
-        self.run(a as u64 + 1, u32::MAX)
+        let octant = writes::octant(edge.from, edge.to);
+        self.write(&writes::line(edge.from, edge.to))?;
+        self.write(&[writes::operations(LINE | OUTLINED | octant)])?;
+        self.run(edge.larger() as u64 + 1, u32::MAX)
     }
 
     /// Up to four runs of steps in one write, which has 1, 2 or 4 codes; where the runs are fewer it ends in a stop.
     pub fn codes(&mut self, runs: &[Stroke]) -> Result<(), String> {
-        let codes = runs.iter().map(|run| code(&run.edge));
-        let value = codes.rev().fold(0, |value, code| value << 8 | code);
+        let word = writes::word(runs.iter().map(|run| code(&run.edge)));
         let positions: i64 = runs.iter().map(|run| run.edge.larger() + 1).sum();
         let length = (runs.len() as u32).next_power_of_two();
-        self.write(0x7C, 4, CODES)?;
-        self.write(0x30 - length, length, value)?;
+        self.write(&[
+            writes::operations(CODES | OUTLINED),
+            writes::codes(length, word),
+        ])?;
         self.run(positions as u64, u32::MAX)
     }
 
     /// Fills map A where the outline has its inside.
     pub fn fill(&mut self, manner: &Manner) -> Result<(), String> {
-        self.write(0x48, 2, MIX_DESTINATION << 8 | MIX_SOURCE)?;
+        self.write(&[writes::mixes(MIX_SOURCE, MIX_DESTINATION)])?;
         self.start_fill(FILL, manner)
     }
 
     /// Makes the outline's map 1 where it has its inside, and 0 elsewhere (003:2104).
     pub fn fill_in_place(&mut self, manner: &Manner) -> Result<(), String> {
-        self.write(0x48, 2, MIX_SOURCE << 8 | MIX_SOURCE)?;
-        self.write(0x5C, 4, 0)?;
+        self.write(&[writes::mixes(MIX_SOURCE, MIX_SOURCE), writes::background(0)])?;
         self.start_fill(FILL_IN_PLACE, manner)
     }
 
@@ -141,16 +133,17 @@ impl Station {
         }
         if let Some((corner, size)) = manner.mask {
             operations |= MASK_BOUNDARY;
-            self.write(0x12, 1, 0)?;
-            self.write(0x18, 4, pair((size.0 - 1, size.1 - 1)))?;
-            self.write(0x6C, 4, pair(corner))?;
+            self.write(&writes::map(MASK, 0, size, BITS_1))?;
+            self.write(&[writes::mask_origin(corner)])?;
         }
-        self.write(0x50, 4, u32::MAX)?;
-        self.write(0x58, 4, manner.colour)?;
-        self.write(0x60, 4, pair((self.size.0 - 1, self.size.1 - 1)))?;
-        self.write(0x74, 4, pair(corner))?;
-        self.write(0x78, 4, pair(corner))?;
-        self.write(0x7C, 4, operations)?;
+        self.write(&[
+            writes::planes(u32::MAX),
+            writes::foreground(manner.colour),
+            writes::dimensions(self.size),
+            writes::pattern(corner),
+            writes::destination(corner),
+            writes::operations(operations),
+        ])?;
         self.run((self.size.0 * self.size.1) as u64, manner.allowance)
     }
 
@@ -183,11 +176,14 @@ impl Station {
         self.image.are_guards_kept() && self.memory.are_guards_kept()
     }
 
-    fn write(&mut self, offset: u32, length: u32, value: u32) -> Result<(), String> {
-        match board::write(self.image.bytes_mut(), offset, length, value) {
-            0 => Ok(()),
-            refusal => Err(format!("write {offset:X} {length} {value:X}: {refusal}")),
+    fn write(&mut self, writes: &[Write]) -> Result<(), String> {
+        for (offset, length, value) in writes {
+            match board::write(self.image.bytes_mut(), *offset, *length, *value) {
+                0 => {}
+                refusal => return Err(format!("write {offset:X} {length} {value:X}: {refusal}")),
+            }
         }
+        Ok(())
     }
 
     /// Runs of so many positions each, to the end, which comes after all of them.
@@ -211,15 +207,10 @@ impl Station {
 }
 
 /// The drawing code of an edge.
-fn code(edge: &Edge) -> u32 {
+fn code(edge: &Edge) -> u8 {
     let (right, down) = edge.differences();
     let step = (right.signum(), down.signum());
     let direction = DIRECTIONS.iter().position(|one| *one == step);
-    let direction = direction.expect("a code has steps") as u32;
-    direction << 5 | 0x10 | edge.larger() as u32
-}
-
-/// Two registers of two bytes, X or width first.
-fn pair((x, y): Point) -> u32 {
-    (y as u32) << 16 | (x as u32 & 0xFFFF)
+    let direction = direction.expect("a code has steps") as u8;
+    direction << 5 | 0x10 | edge.larger() as u8
 }

@@ -1,10 +1,9 @@
 //! Drawings of the proved library, each a few register writes and a run.
 
 use crate::board::{self, IMAGE};
-
-/// Formats.
-pub const BITS_1: u32 = 0;
-pub const BITS_8: u32 = 3;
+use crate::writes::{
+    self, Point, Write, BLOCK, BOUNDARY, CODES, LINE, MIX_DESTINATION, MIX_SOURCE, MIX_XOR,
+};
 
 /// The map index of the mask, and of the maps that a drawing names.
 pub const MASK: u32 = 0;
@@ -12,22 +11,10 @@ pub const CLOTH: u32 = 1;
 pub const SOURCE: u32 = 2;
 pub const BITMAP: u32 = 3;
 
-const CODES: u32 = 0x0400_8000;
-const LINE: u32 = 0x0500_8000;
-const BLOCK: u32 = 0x0800_8000;
 const TILED_BLOCK: u32 = 0x0800_3000;
 const INVERTING_BLOCK_FROM_SOURCE: u32 = 0x2920_8000;
 const FILL: u32 = 0x0A00_3000;
 const MASKED: u32 = 0x0000_0080;
-const BOUNDARY: u32 = 0x0000_0030;
-
-/// Mixes, of the foreground and the background.
-const SOURCE_BOTH: u32 = 0x0303;
-const SOURCE_OR_DESTINATION: u32 = 0x0503;
-const XOR_BOTH: u32 = 0x0606;
-
-/// A pixel.
-pub type Point = (i32, i32);
 
 /// A state image, its memory, and the positions drawn so far.
 pub struct Loom {
@@ -46,15 +33,19 @@ impl Loom {
             memory: vec![0; size as usize],
             positions: 0,
         };
-        loom.write(0x48, 2, SOURCE_BOTH);
-        loom.write(0x4A, 1, 4);
-        loom.write(0x50, 4, 0xFF);
+        loom.write(&[
+            writes::mixes(MIX_SOURCE, MIX_SOURCE),
+            writes::no_compare(),
+            writes::planes(0xFF),
+        ]);
         loom
     }
 
-    fn write(&mut self, offset: u32, length: u32, value: u32) {
-        let refusal = board::write(&mut self.image, offset, length, value);
-        assert_eq!(refusal, 0, "write {offset:X} {length} {value:X}");
+    fn write(&mut self, writes: &[Write]) {
+        for (offset, length, value) in writes {
+            let refusal = board::write(&mut self.image, *offset, *length, *value);
+            assert_eq!(refusal, 0, "write {offset:X} {length} {value:X}");
+        }
     }
 
     /// Runs the drawing in hand to its end.
@@ -64,52 +55,58 @@ impl Loom {
         self.positions += u64::from(done);
     }
 
+    /// The writes, of which the last starts a drawing, and that drawing to its end.
+    fn draw(&mut self, writes: &[Write]) {
+        self.write(writes);
+        self.run();
+    }
+
     /// Lays a map into the memory.
-    pub fn map(&mut self, index: u32, base: u32, (width, height): Point, format: u32) {
-        self.write(0x12, 1, index);
-        self.write(0x14, 4, base);
-        self.write(0x18, 4, pair((width - 1, height - 1)));
-        self.write(0x1C, 1, format);
+    pub fn map(&mut self, index: u32, base: u32, size: Point, format: u32) {
+        self.write(&writes::map(index, base, size, format));
     }
 
     /// A block of one colour.
     pub fn block(&mut self, map: u32, at: Point, size: Point, colour: u32) {
-        self.write(0x58, 4, colour);
-        self.write(0x60, 4, pair((size.0 - 1, size.1 - 1)));
-        self.write(0x78, 4, pair(at));
-        self.write(0x7C, 4, BLOCK | map << 16);
-        self.run();
+        self.draw(&[
+            writes::foreground(colour),
+            writes::dimensions(size),
+            writes::destination(at),
+            writes::operations(BLOCK | map << 16),
+        ]);
     }
 
     /// A block of the cloth in two colours, picked by the tile in the bitmap, which begins at the cloth's corner.
     pub fn tiled_block(&mut self, at: Point, size: Point, colours: (u32, u32)) {
-        self.write(0x58, 4, colours.1);
-        self.write(0x5C, 4, colours.0);
-        self.write(0x60, 4, pair((size.0 - 1, size.1 - 1)));
-        self.write(0x74, 4, pair(at));
-        self.write(0x78, 4, pair(at));
-        self.write(0x7C, 4, TILED_BLOCK | CLOTH << 16);
-        self.run();
+        self.draw(&[
+            writes::foreground(colours.1),
+            writes::background(colours.0),
+            writes::dimensions(size),
+            writes::pattern(at),
+            writes::destination(at),
+            writes::operations(TILED_BLOCK | CLOTH << 16),
+        ]);
     }
 
     /// A block of the cloth of which only the mask's shape shows, the mask lying at its corner.
     pub fn masked_block(&mut self, at: Point, size: Point, colour: u32) {
-        self.write(0x58, 4, colour);
-        self.write(0x60, 4, pair((size.0 - 1, size.1 - 1)));
-        self.write(0x6C, 4, pair(at));
-        self.write(0x78, 4, pair(at));
-        self.write(0x7C, 4, BLOCK | CLOTH << 16 | MASKED);
-        self.run();
+        self.draw(&[
+            writes::foreground(colour),
+            writes::dimensions(size),
+            writes::mask_origin(at),
+            writes::destination(at),
+            writes::operations(BLOCK | CLOTH << 16 | MASKED),
+        ]);
     }
 
     /// Turns rows of the source map, from the top, upside down into the cloth, from a row upwards.
-    pub fn turned_copy(&mut self, size: Point, bottom_row: i32) {
-        self.write(0x60, 4, pair((size.0 - 1, size.1 - 1)));
-        self.write(0x70, 4, pair((0, 0)));
-        self.write(0x78, 4, pair((0, bottom_row)));
-        let operations = INVERTING_BLOCK_FROM_SOURCE | SOURCE << 20 | CLOTH << 16;
-        self.write(0x7C, 4, operations);
-        self.run();
+    pub fn turned_copy(&mut self, size: Point, bottom_row: i64) {
+        self.draw(&[
+            writes::dimensions(size),
+            writes::source((0, 0)),
+            writes::destination((0, bottom_row)),
+            writes::operations(INVERTING_BLOCK_FROM_SOURCE | SOURCE << 20 | CLOTH << 16),
+        ]);
     }
 
     /// A line with both its ends.
@@ -119,57 +116,46 @@ impl Loom {
 
     /// Turns the bitmap's pixels along the area boundary of a closed outline.
     pub fn outline(&mut self, points: &[Point]) {
-        self.write(0x48, 2, XOR_BOTH);
+        self.write(&[writes::mixes(MIX_XOR, MIX_XOR)]);
         let next = points.iter().cycle().skip(1);
         for (from, to) in points.iter().zip(next) {
             self.line_of(LINE | BITMAP << 16 | BOUNDARY, *from, *to, 1);
         }
-        self.write(0x48, 2, SOURCE_BOTH);
+        self.write(&[writes::mixes(MIX_SOURCE, MIX_SOURCE)]);
     }
 
     /// Fills a block of the cloth where the outline in the bitmap, which begins at the block's corner, has its inside.
     pub fn fill(&mut self, at: Point, size: Point, colour: u32) {
-        self.write(0x48, 2, SOURCE_OR_DESTINATION);
-        self.write(0x58, 4, colour);
-        self.write(0x60, 4, pair((size.0 - 1, size.1 - 1)));
-        self.write(0x74, 4, pair((0, 0)));
-        self.write(0x78, 4, pair(at));
-        self.write(0x7C, 4, FILL | CLOTH << 16);
-        self.run();
-        self.write(0x48, 2, SOURCE_BOTH);
+        self.draw(&[
+            writes::mixes(MIX_SOURCE, MIX_DESTINATION),
+            writes::foreground(colour),
+            writes::dimensions(size),
+            writes::pattern((0, 0)),
+            writes::destination(at),
+            writes::operations(FILL | CLOTH << 16),
+        ]);
+        self.write(&[writes::mixes(MIX_SOURCE, MIX_SOURCE)]);
     }
 
-    /// A line by 003's terms.
     fn line_of(&mut self, operations: u32, from: Point, to: Point, colour: u32) {
-        let (x, y) = (to.0 - from.0, to.1 - from.1);
-        let (major, minor) = (x.abs().max(y.abs()), x.abs().min(y.abs()));
-        let octant = u32::from(x < 0) << 2 | u32::from(y < 0) << 1 | u32::from(y.abs() > x.abs());
-        self.write(0x20, 4, (2 * minor - major) as u32);
-        self.write(0x24, 4, (2 * minor) as u32);
-        self.write(0x28, 4, (2 * (minor - major)) as u32);
-        self.write(0x58, 4, colour);
-        self.write(0x60, 2, major as u32);
-        self.write(0x78, 4, pair(from));
-        self.write(0x7C, 4, operations | octant);
-        self.run();
+        self.write(&writes::line(from, to));
+        self.draw(&[
+            writes::foreground(colour),
+            writes::destination(from),
+            writes::operations(operations | writes::octant(from, to)),
+        ]);
     }
 
     /// Step codes on the cloth, four to a write, the last write filled up with stops.
     pub fn codes(&mut self, at: Point, colour: u32, codes: &[u8]) {
-        self.write(0x58, 4, colour);
-        self.write(0x78, 4, pair(at));
-        self.write(0x7C, 4, CODES | CLOTH << 16);
+        self.write(&[
+            writes::foreground(colour),
+            writes::destination(at),
+            writes::operations(CODES | CLOTH << 16),
+        ]);
         for four in codes.chunks(4) {
-            let value = four
-                .iter()
-                .rfold(0, |word, code| word << 8 | u32::from(*code));
-            self.write(0x2C, 4, value);
-            self.run();
+            let word = writes::word(four.iter().copied());
+            self.draw(&[writes::codes(4, word)]);
         }
     }
-}
-
-/// Two registers of two bytes, X or width first.
-fn pair((x, y): Point) -> u32 {
-    (y as u32) << 16 | (x as u32 & 0xFFFF)
 }

@@ -1,6 +1,7 @@
 //! A figured cloth: a lattice ground, a border, roses, leaves and horns, and a medallion in the middle.
 
-use crate::loom::{Loom, Point, BITMAP, BITS_1, BITS_8, CLOTH, MASK, SOURCE};
+use super::loom::{Loom, BITMAP, CLOTH, MASK, SOURCE};
+use crate::writes::{Point, BITS_1, BITS_8};
 
 /// The cloth's size; left mirrors right, and bottom mirrors top.
 pub const SIZE: Point = (160, 120);
@@ -87,7 +88,7 @@ fn zigzag(forth: u8, back: u8, count: usize) -> Vec<u8> {
 }
 
 /// The top half of a rectangle of lines.
-fn frame(loom: &mut Loom, inset: i32, colour: u32) {
+fn frame(loom: &mut Loom, inset: i64, colour: u32) {
     let (right, bottom) = (SIZE.0 - 1 - inset, SIZE.1 / 2 - 1);
     loom.line(CLOTH, (inset, inset), (right, inset), colour);
     loom.line(CLOTH, (inset, inset), (inset, bottom), colour);
@@ -130,7 +131,7 @@ fn rose(loom: &mut Loom, (axis, row): Point) {
 /// Lozenges inside each other, one colour each from the heart out; the axis is at the left of its pixel.
 fn lozenge(loom: &mut Loom, (axis, row): Point, colours: &[u32]) {
     for (radius, colour) in (0..).zip(colours) {
-        let top = row - i32::from(radius);
+        let top = row - i64::from(radius);
         let codes = [DOWN_RIGHT + radius, DOWN_LEFT + radius];
         loom.codes((axis, top), *colour, &codes);
         loom.codes((axis - 1, top), *colour, &turned(&codes));

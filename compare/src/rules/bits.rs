@@ -1,6 +1,7 @@
 //! The rules of state 3, drawing and inside, each broken by itself.
 
 use super::{of_bytes, rests, Rule};
+use model::image;
 use model::operations::AREA_BOUNDARY;
 use model::{Coprocessor, Drawing};
 
@@ -28,7 +29,9 @@ pub fn rules() -> Vec<Rule> {
 
 /// A rule that state 3 breaks.
 fn forbidden(name: &str, fits: fn(&Coprocessor) -> bool) -> Rule {
-    of_bytes(name, fits, |_, image| image[9] = 3)
+    of_bytes(name, fits, |_, bytes| {
+        bytes[image::STATE_AT] = image::DRAWING_INSIDE;
+    })
 }
 
 fn is_boundary(state: &Coprocessor) -> bool {

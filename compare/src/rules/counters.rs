@@ -1,18 +1,19 @@
-//! The rules on bytes 10 to 14 and on the codes, each broken by itself.
+//! The rules on the counters and on the codes, each broken by itself.
 
-use super::{from, of_bytes, of_record, Rule};
+use super::{any_of, from, of_bytes, of_record, Rule};
+use crate::random::Random;
 use model::codes::{self, Code};
-use model::random::Random;
+use model::image;
 use model::{Coprocessor, Drawing};
 
 /// The rules, in the paper's order.
 pub fn rules() -> Vec<Rule> {
     vec![
-        of_bytes("zero while idle", is_idle, |random, image| {
-            image[10 + random.below(5) as usize] = from(random, 1, 255) as u8;
+        of_bytes("zero while idle", is_idle, |random, bytes| {
+            bytes[any_of(random, image::COUNTERS)] = from(random, 1, 255) as u8;
         }),
-        of_bytes("zero after a stop", is_stopped, |random, image| {
-            image[10 + random.below(5) as usize] = from(random, 1, 255) as u8;
+        of_bytes("zero after a stop", is_stopped, |random, bytes| {
+            bytes[any_of(random, image::COUNTERS)] = from(random, 1, 255) as u8;
         }),
         of_record("a line's positions", is_line, |random, state| {
             if let Drawing::Line { done, .. } = &mut state.drawing {
@@ -42,14 +43,14 @@ pub fn rules() -> Vec<Rule> {
                 *row = after(random, state.registers.dimension_2);
             }
         }),
-        of_bytes("a line's rows", is_line, |random, image| {
-            image[12 + random.below(2) as usize] = from(random, 1, 255) as u8;
+        of_bytes("a line's rows", is_line, |random, bytes| {
+            bytes[any_of(random, image::ROWS_OR_CODES_DONE)] = from(random, 1, 255) as u8;
         }),
-        of_bytes("a line's codes", is_line, |random, image| {
-            image[14] = from(random, 1, 255) as u8;
+        of_bytes("a line's codes", is_line, |random, bytes| {
+            bytes[image::CODES_AT] = from(random, 1, 255) as u8;
         }),
-        of_bytes("a block's codes", has_rows, |random, image| {
-            image[14] = from(random, 1, 255) as u8;
+        of_bytes("a block's codes", has_rows, |random, bytes| {
+            bytes[image::CODES_AT] = from(random, 1, 255) as u8;
         }),
         of_record("codes in the write", has_no_stop, |random, state| {
             let more = from(random, 5, 255);

@@ -1,9 +1,9 @@
 //! The start rules on the used maps of a drawing in hand, each broken by itself.
 
 use super::{draws, from, of_record, Rule};
+use crate::random::Random;
 use crate::states::used_maps;
 use model::operations::Operations;
-use model::random::Random;
 use model::{Coprocessor, Map};
 
 /// A map's use: its name, whether the operations have it, and the map.

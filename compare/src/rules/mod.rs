@@ -7,10 +7,14 @@ mod pointers;
 mod reductions;
 mod starts;
 
+use crate::random::Random;
 use model::coprocessor::SIZE_LIMIT;
 use model::image;
-use model::random::Random;
 use model::Coprocessor;
+use std::ops::Range;
+
+/// The bytes of an image.
+const LENGTH: u32 = image::LENGTH as u32;
 
 type Fits = Box<dyn Fn(&Coprocessor) -> bool>;
 type Breaks = Box<dyn Fn(&mut Random, &Coprocessor) -> Vec<u8>>;
@@ -50,25 +54,27 @@ pub fn all() -> Vec<Rule> {
 /// The rules that do not look at the registers.
 fn frame() -> Vec<Rule> {
     vec![
-        of_bytes("length", any, |random, image| {
+        of_bytes("length", any, |random, bytes| {
             if random.once_in(2) {
-                image.truncate(random.pick(&[114, 114, 16, 0]) as usize);
+                bytes.truncate(random.pick(&[LENGTH - 1, LENGTH - 1, 16, 0]) as usize);
             } else {
-                image.resize(random.pick(&[116, 116, 128, 230]) as usize, 0);
+                let longer = [LENGTH + 1, LENGTH + 1, 128, 2 * LENGTH];
+                bytes.resize(random.pick(&longer) as usize, 0);
             }
         }),
-        of_bytes("mark", any, |random, image| {
-            change(random, &mut image[..3]);
+        of_bytes("mark", any, |random, bytes| {
+            change(random, &mut bytes[image::MARK]);
         }),
-        of_bytes("version", any, |random, image| {
-            change(random, &mut image[3..5]);
+        of_bytes("version", any, |random, bytes| {
+            change(random, &mut bytes[image::VERSION]);
         }),
         of_record("size 0", rests, |_, state| state.size = 0),
         of_record("size above the limit", any, |random, state| {
             state.size = from(random, SIZE_LIMIT + 1, u32::MAX);
         }),
-        of_bytes("state", has_zero_counters, |random, image| {
-            image[9] = from(random, 4, 255) as u8;
+        of_bytes("state", has_zero_counters, |random, bytes| {
+            let first = u32::from(image::DRAWING_INSIDE) + 1;
+            bytes[image::STATE_AT] = from(random, first, 255) as u8;
         }),
     ]
 }
@@ -129,9 +135,9 @@ fn draws(state: &Coprocessor) -> bool {
     state.drawing.is_unfinished()
 }
 
-/// Whether bytes 10 to 14 are zero, as they are for every state that is not of a drawing.
+/// Whether the counters are zero, as they are for every state that is not of a drawing.
 fn has_zero_counters(state: &Coprocessor) -> bool {
-    image::of(state)[10..15] == [0; 5]
+    image::of(state)[image::COUNTERS] == [0; 5]
 }
 
 /// A number from `first` to `last`, most often one of these two.
@@ -145,6 +151,11 @@ fn from(random: &mut Random, first: u32, last: u32) -> u32 {
 
 /// Makes one of the bytes another.
 fn change(random: &mut Random, bytes: &mut [u8]) {
-    let place = random.below(bytes.len() as u32) as usize;
+    let place = any_of(random, 0..bytes.len());
     bytes[place] ^= 1 + random.below(255) as u8;
+}
+
+/// Any place of a part of the image.
+fn any_of(random: &mut Random, part: Range<usize>) -> usize {
+    part.start + random.below(part.len() as u32) as usize
 }

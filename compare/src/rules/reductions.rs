@@ -1,8 +1,8 @@
 //! The reductions of the registers, each broken by itself.
 
 use super::{any, from, of_record, rests, Rule};
+use crate::random::Random;
 use crate::states::used_maps;
-use model::random::Random;
 use model::{Coprocessor, Registers};
 
 type Fits = fn(&Coprocessor) -> bool;

@@ -1,7 +1,7 @@
 //! The start rules on the pixel operations and mixes of a drawing in hand, each broken by itself.
 
 use super::{draws, from, of_record, Rule};
-use model::random::Random;
+use crate::random::Random;
 use model::{Coprocessor, Drawing};
 
 const NO_MAPS: [u32; 13] = [0, 4, 5, 6, 7, 8, 9, 10, 11, 12, 13, 14, 15];

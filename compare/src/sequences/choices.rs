@@ -5,10 +5,10 @@ use crate::calls;
 use crate::damage;
 use crate::set_ups;
 use crate::states;
+use crate::writes::{self, Write};
 use model::coprocessor::SIZE_LIMIT;
 use model::image;
 use model::operations::Kind;
-use model::random_drawings::Write;
 
 /// The most positions that are left to a run without a limit.
 const LONGEST_RUN: u64 = 3_000;
@@ -81,8 +81,7 @@ impl Sequence<'_> {
         let map = *registers.map(registers.fields().destination);
         let x = set_ups::destination(&mut self.random, map.width);
         let y = set_ups::destination(&mut self.random, map.height);
-        let value = u32::from(y as u16) << 16 | u32::from(x as u16);
-        self.write((0x78, 4, value))
+        self.write(writes::destination((x.into(), y.into())))
     }
 
     fn write_any(&mut self) -> Result<(), String> {

@@ -1,8 +1,8 @@
 //! What sequences of calls met.
 
+use crate::random_drawings::FUNCTIONS;
 use crate::report;
 use model::operations::Kind;
-use model::random_drawings::FUNCTIONS;
 use model::registers::{OPERATIONS_START, STEPS_START};
 use model::Coprocessor;
 use std::fmt;

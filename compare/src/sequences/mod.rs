@@ -8,7 +8,7 @@ pub use counts::Counts;
 
 use crate::others::Others;
 use crate::panics;
-use model::random::Random;
+use crate::random::Random;
 use sequence::Sequence;
 
 /// The sequences from which on every number that a call can answer with must have been met.

@@ -4,9 +4,10 @@ use super::counts::{Call, Counts};
 use crate::memories::Memories;
 use crate::others::Others;
 use crate::pair::Pair;
+use crate::random::Random;
+use crate::random_drawings::{self, FUNCTIONS};
 use crate::set_ups;
-use model::random::Random;
-use model::random_drawings::{self, Write, FUNCTIONS};
+use crate::writes::Write;
 
 /// A sequence as far as it has come.
 pub struct Sequence<'a> {

@@ -1,7 +1,7 @@
 //! Times a workload: best of several, the runners in turn.
 
-use crate::runners::{Plain, Proved, Runner};
-use crate::workloads::{Beside, Job, Workload};
+use super::runners::{Plain, Proved, Runner};
+use super::workloads::{Beside, Job, Workload};
 use std::hint::black_box;
 use std::time::{Duration, Instant};
 

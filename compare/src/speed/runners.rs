@@ -1,8 +1,9 @@
 //! The three that run the same work: the proved library, the fast runner and the clear program.
 
 use crate::board::{self, IMAGE};
-use model::random_drawings::Write;
-use model::{fast, Coprocessor};
+use crate::fast;
+use crate::writes::Write;
+use model::Coprocessor;
 
 /// A state, as the proved library and as the independent program keep it.
 #[derive(Clone)]

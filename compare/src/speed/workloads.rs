@@ -1,12 +1,17 @@
 //! The work that is timed, all of it prepared through register writes.
 
-use crate::runners::State;
-use crate::writes::{block, line, map, pixels, BITS_1, BITS_4, BITS_8, MIX_SOURCE, MIX_XOR};
-use model::random::Random;
-use model::random_drawings::Write;
+use super::runners::State;
+use crate::random::Random;
+use crate::writes::{
+    self, map, Point, Write, BITS_1, BITS_4, BITS_8, BLOCK, BOUNDARY, CODES, LINE, MIX_SOURCE,
+    MIX_XOR,
+};
 
 /// The bytes of every workload's memory.
 pub const SIZE: u32 = 1 << 20;
+
+/// The pixels of most maps.
+const SQUARE: Point = (512, 512);
 
 /// A drawing: the state to take up first, if any, and the writes before its run.
 pub struct Job {
@@ -22,6 +27,19 @@ pub enum Beside {
     Copy(usize),
     Times(&'static str),
 }
+
+/// The maps that are drawn into, copied from, and picked from; the mask is map 0.
+const MASK: u32 = 0;
+const TO: u32 = 1;
+const FROM: u32 = 2;
+const BITMAP: u32 = 3;
+
+/// Pixel operations: colours or source pixels into the first map, by the foreground alone or by the bits of a pattern.
+const FILL: u32 = BLOCK | TO << 16;
+const COPY: u32 = 0x2800_8000 | FROM << 20 | TO << 16;
+const EXPANSION: u32 = 0x0800_3000 | TO << 16;
+const AREA_FILL: u32 = 0x0A00_3000 | TO << 16;
+const MASKED: u32 = 0x80;
 
 const PATTERN: &str = "1-bit pattern to 8 bits, 512 by 512";
 const LINES: &str = "lines of 4096";
@@ -44,7 +62,7 @@ pub fn all() -> Vec<Workload> {
         expansion(),
         area_fill(),
         masked_xor(),
-        long_lines(LINES, 0x0501_8000),
+        long_lines(LINES, LINE | TO << 16),
         boundary_lines(),
         step_codes(),
         short_lines("lines of ten, run only", false),
@@ -53,9 +71,10 @@ pub fn all() -> Vec<Workload> {
 }
 
 fn fill() -> Workload {
-    let mut writes = map(1, 0, 1024, 1024, BITS_8);
+    let size = (1024, 1024);
+    let mut writes = map(TO, 0, size, BITS_8).to_vec();
     writes.extend(pixels(MIX_SOURCE, 0x5A, 0));
-    writes.extend(block(1024, 1024, 0x0801_8000));
+    writes.extend(block(size, FILL));
     Workload {
         beside: Beside::Set(1024 * 1024),
         ..started("8-bit fill, 1024 by 1024", vec![writes])
@@ -63,10 +82,10 @@ fn fill() -> Workload {
 }
 
 fn copy() -> Workload {
-    let mut writes = map(1, 0, 512, 512, BITS_8);
-    writes.extend(map(2, 0x4_0000, 512, 512, BITS_8));
+    let mut writes = map(TO, 0, SQUARE, BITS_8).to_vec();
+    writes.extend(map(FROM, 0x4_0000, SQUARE, BITS_8));
     writes.extend(pixels(MIX_SOURCE, 0, 0));
-    writes.extend(block(512, 512, 0x2821_8000));
+    writes.extend(block(SQUARE, COPY));
     Workload {
         beside: Beside::Copy(512 * 512),
         ..started("8-bit copy, 512 by 512", vec![writes])
@@ -75,36 +94,39 @@ fn copy() -> Workload {
 
 /// A pattern of random bits picks foreground or background colour.
 fn expansion() -> Workload {
-    started(PATTERN, vec![by_pattern(0x0801_3000)])
+    started(PATTERN, vec![by_pattern(EXPANSION)])
 }
 
 /// The same pattern, of which each 1 turns inside to outside or back.
 fn area_fill() -> Workload {
     Workload {
         beside: Beside::Times(PATTERN),
-        ..started("area fill, 512 by 512", vec![by_pattern(0x0A01_3000)])
+        ..started("area fill, 512 by 512", vec![by_pattern(AREA_FILL)])
     }
 }
 
 /// A block whose colour a pattern of random bits picks.
 fn by_pattern(operations: u32) -> Vec<Write> {
-    let mut writes = map(1, 0, 512, 512, BITS_8);
-    writes.extend(map(3, 0x8_0000, 512, 512, BITS_1));
+    let mut writes = map(TO, 0, SQUARE, BITS_8).to_vec();
+    writes.extend(map(BITMAP, 0x8_0000, SQUARE, BITS_1));
     writes.extend(pixels(MIX_SOURCE, 0xE0, 0x1F));
-    writes.extend(block(512, 512, operations));
+    writes.extend(block(SQUARE, operations));
     writes
 }
 
 /// The mask shows discs, 64 pixels apart.
 fn masked_xor() -> Workload {
-    const MASK: usize = 0x8_0000;
-    let mut writes = map(1, 0, 512, 512, BITS_4);
-    writes.extend(map(2, 0x4_0000, 512, 512, BITS_4));
-    writes.extend(map(0, MASK as u32, 512, 512, BITS_1));
+    const MASK_AT: usize = 0x8_0000;
+    let mut writes = map(TO, 0, SQUARE, BITS_4).to_vec();
+    writes.extend(map(FROM, 0x4_0000, SQUARE, BITS_4));
+    writes.extend(map(MASK, MASK_AT as u32, SQUARE, BITS_1));
     writes.extend(pixels(MIX_XOR, 0, 0));
-    writes.extend(block(512, 512, 0x2821_8080));
+    writes.extend(block(SQUARE, COPY | MASKED));
     let mut workload = started("4-bit xor copy, mask map, 512 by 512", vec![writes]);
-    for (place, byte) in workload.memory[MASK..][..512 * 64].iter_mut().enumerate() {
+    for (place, byte) in workload.memory[MASK_AT..][..512 * 64]
+        .iter_mut()
+        .enumerate()
+    {
         let is_inside = |bit: usize| {
             let (x, y) = (place % 64 * 8 + bit, place / 64);
             (x % 64).abs_diff(32).pow(2) + (y % 64).abs_diff(32).pow(2) < 900
@@ -117,7 +139,7 @@ fn masked_xor() -> Workload {
 /// Lines across the whole width, of different slopes.
 fn long_lines(name: &'static str, operations: u32) -> Workload {
     let lines = (0..16).map(|number| {
-        let mut writes = map(1, 0, 4096, 256, BITS_8);
+        let mut writes = map(TO, 0, (4096, 256), BITS_8).to_vec();
         writes.extend(pixels(MIX_SOURCE, 0xC3, 0));
         writes.extend(line((0, 0), (4095, number * 17), operations));
         writes
@@ -129,7 +151,7 @@ fn long_lines(name: &'static str, operations: u32) -> Workload {
 fn boundary_lines() -> Workload {
     Workload {
         beside: Beside::Times(LINES),
-        ..long_lines("mode 11 lines of 4096", 0x0501_8030)
+        ..long_lines("mode 11 lines of 4096", LINE | TO << 16 | BOUNDARY)
     }
 }
 
@@ -137,11 +159,11 @@ fn boundary_lines() -> Workload {
 fn step_codes() -> Workload {
     let mut random = Random::new(2);
     let drawings = (0..64).map(|_| {
-        let mut writes = map(1, 0, 256, 256, BITS_8);
+        let mut writes = map(TO, 0, (256, 256), BITS_8).to_vec();
         writes.extend(pixels(MIX_SOURCE, 0x3C, 0));
-        writes.push((0x78, 4, 128 << 16 | 128));
-        writes.push((0x7C, 4, 0x0401_8000));
-        writes.push((0x2C, 4, random.word() | 0x1F1F_1F1F));
+        writes.push(writes::destination((128, 128)));
+        writes.push(writes::operations(CODES | TO << 16));
+        writes.push(writes::codes(4, random.word() | 0x1F1F_1F1F));
         writes
     });
     started("step codes, four of 16", drawings.collect())
@@ -150,11 +172,12 @@ fn step_codes() -> Workload {
 /// Lines of ten pixels anywhere in the map, with or without the seven writes that each needs.
 fn short_lines(name: &'static str, with_writes: bool) -> Workload {
     let mut random = Random::new(3);
-    let mut prepared = map(1, 0, 1024, 1024, BITS_8);
+    let mut prepared = map(TO, 0, (1024, 1024), BITS_8).to_vec();
     prepared.extend(pixels(MIX_SOURCE, 0x77, 0));
     let mut any_line = || {
-        let (x, y) = (random.between(10, 1000), random.between(10, 1000));
-        line((x, y), (x + 9, y + random.between(0, 9)), 0x0501_8000)
+        let mut between = |first, last| i64::from(random.between(first, last));
+        let (x, y) = (between(10, 1000), between(10, 1000));
+        line((x, y), (x + 9, y + between(0, 9)), LINE | TO << 16)
     };
     let lines: Vec<Vec<Write>> = (0..256).map(|_| any_line()).collect();
     if !with_writes {
@@ -174,6 +197,31 @@ fn short_lines(name: &'static str, with_writes: bool) -> Workload {
         jobs: jobs.collect(),
         ..started(name, Vec::new())
     }
+}
+
+/// Both mixes, compare never, all planes, and the two colours.
+fn pixels(mix: u32, foreground: u32, background: u32) -> [Write; 5] {
+    [
+        writes::mixes(mix, mix),
+        writes::no_compare(),
+        writes::planes(u32::MAX),
+        writes::foreground(foreground),
+        writes::background(background),
+    ]
+}
+
+/// The size of a block and its start.
+fn block(size: Point, operations: u32) -> [Write; 2] {
+    [writes::dimensions(size), writes::operations(operations)]
+}
+
+/// The seven writes of a line that goes right and down, in a colour of its slope.
+fn line(from: Point, to: Point, operations: u32) -> Vec<Write> {
+    let mut writes = writes::line(from, to).to_vec();
+    writes.push(writes::foreground(0x80 + (to.1 - from.1) as u32));
+    writes.push(writes::destination(from));
+    writes.push(writes::operations(operations));
+    writes
 }
 
 /// Drawings that are started before the time is taken, on a memory of random bytes.

@@ -1,9 +1,12 @@
 //! The fast runner against the clear one: the same refusals, positions, registers and memory.
 
-use model::random::Random;
-use model::random_damage::damage;
-use model::random_drawings::{drawing, started, FUNCTIONS};
-use model::{fast, Coprocessor};
+mod common;
+
+use common::{any_started, damage};
+use compare::fast;
+use compare::random::Random;
+use compare::writes::{self, Write, BITS_1, BITS_8, MIX_SOURCE};
+use model::{image, Coprocessor};
 
 /// Both runs on copies of one state and memory: all that they change and answer is the same; the answer.
 fn run(coprocessor: &mut Coprocessor, memory: &mut Vec<u8>, allowance: u32) -> (u32, u32) {
@@ -14,12 +17,6 @@ fn run(coprocessor: &mut Coprocessor, memory: &mut Vec<u8>, allowance: u32) -> (
     assert_eq!(fast_coprocessor, *coprocessor);
     assert_eq!(fast_memory, *memory);
     answer
-}
-
-/// A drawing just started, of any function.
-fn any_started(random: &mut Random) -> (Coprocessor, Vec<u8>) {
-    let function = random.pick(&FUNCTIONS);
-    started(&drawing(random, function))
 }
 
 #[test]
@@ -80,12 +77,12 @@ fn states_that_only_an_image_reaches() {
     for _ in 0..4_000 {
         let (mut coprocessor, mut memory) = any_started(&mut random);
         coprocessor.run(&mut memory, random.below(30));
-        let mut image = [0; 115];
-        assert_eq!(coprocessor.save(&mut image), 0);
+        let mut bytes = image::of(&coprocessor);
         for _ in 0..=random.below(3) {
-            image[random.below(115) as usize] = random.word() as u8;
+            let place = random.below(image::LENGTH as u32) as usize;
+            bytes[place] = random.word() as u8;
         }
-        if coprocessor.load(&image) == 0 {
+        if coprocessor.load(&bytes) == 0 {
             let mut memory = vec![0x5A; coprocessor.size as usize];
             drawn += run(&mut coprocessor, &mut memory, 200).1;
         }
@@ -110,4 +107,62 @@ fn damaged_records_are_refused_with_10_by_both() {
         refused += u32::from(refusal == 10);
     }
     assert!(refused > 3_000);
+}
+
+const MASK: u32 = 0;
+const DESTINATION: u32 = 1;
+const SOURCE: u32 = 2;
+const PATTERN: u32 = 3;
+
+/// Draws a block in a memory that is half as long as the state's, where only one map goes on behind its end.
+///
+/// A run refuses such a memory with 9, so only the loop inside it can be lent it.
+fn draw_beyond(reaching: u32) {
+    let (mut coprocessor, _) = Coprocessor::fresh(32);
+    let size = (8, 2);
+    let maps = [
+        (MASK, BITS_1, 15),
+        (DESTINATION, BITS_8, 13),
+        (SOURCE, BITS_8, 13),
+        (PATTERN, BITS_1, 15),
+    ];
+    let maps = maps.map(|(map, format, late)| {
+        let base = if map == reaching { late } else { 0 };
+        writes::map(map, base, size, format)
+    });
+    let block: [Write; 5] = [
+        writes::mixes(MIX_SOURCE, 0),
+        writes::no_compare(),
+        writes::planes(0xFF),
+        writes::dimensions(size),
+        writes::operations(0x2821_3080),
+    ];
+    for (offset, length, value) in maps.concat().into_iter().chain(block) {
+        assert_eq!(coprocessor.write(offset, length, value), 0);
+    }
+    fast::draw(&mut coprocessor, &mut [0xFF; 16], u32::MAX);
+}
+
+#[test]
+#[should_panic(expected = "the source pixel (3, 0) reaches beyond a memory of 16 bytes")]
+fn a_source_pixel_beyond_fails_loudly() {
+    draw_beyond(SOURCE);
+}
+
+#[test]
+#[should_panic(expected = "the pattern pixel (0, 1) reaches beyond a memory of 16 bytes")]
+fn a_pattern_pixel_beyond_fails_loudly() {
+    draw_beyond(PATTERN);
+}
+
+#[test]
+#[should_panic(expected = "the mask pixel (0, 1) reaches beyond a memory of 16 bytes")]
+fn a_mask_pixel_beyond_fails_loudly() {
+    draw_beyond(MASK);
+}
+
+#[test]
+#[should_panic(expected = "the destination pixel (3, 0) reaches beyond a memory of 16 bytes")]
+fn a_destination_pixel_beyond_fails_loudly() {
+    draw_beyond(DESTINATION);
 }

@@ -2,10 +2,10 @@
 
 use super::inks::Ink;
 use super::surfaces::Surface;
-use crate::coprocessor::Coprocessor;
-use crate::operations::{self, Kind, Operations};
-use crate::reach::Role;
-use crate::registers::Registers;
+use model::coprocessor::Coprocessor;
+use model::operations::{self, Kind, Operations};
+use model::reach::Role;
+use model::registers::Registers;
 
 /// What picks the ink.
 pub(super) enum Pattern {

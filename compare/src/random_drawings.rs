@@ -1,11 +1,11 @@
 //! Random drawings that the start rules accept.
 
-use crate::codes;
-use crate::coprocessor::Coprocessor;
-use crate::operations::{self, Kind, Operations};
-use crate::pixels;
 use crate::random::Random;
-use crate::registers::STEPS_START;
+use crate::writes::{self, Write};
+use model::codes;
+use model::operations::{self, Kind, Operations};
+use model::pixels;
+use model::Coprocessor;
 
 /// The functions that draw.
 pub const FUNCTIONS: [u32; 7] = [
@@ -23,9 +23,6 @@ const MAP_SIDE: u32 = 12;
 
 /// A memory that holds a map of that side with 8 bits.
 const LEAST_SIZE: u32 = MAP_SIDE * MAP_SIDE;
-
-/// A write: offset, length and value.
-pub type Write = (u32, u32, u32);
 
 /// A drawing as a memory and the writes that set it up, of which the last starts it.
 #[derive(Clone, Debug)]
@@ -45,7 +42,7 @@ pub fn drawing(random: &mut Random, function: u32) -> RandomDrawing {
     writes.extend(term_writes(random));
     writes.extend(pixel_writes(random));
     writes.extend(place_writes(random, &Operations::of(operations)));
-    writes.push((0x7C, 4, operations));
+    writes.push(writes::operations(operations));
     if Operations::of(operations).kind() == Some(Kind::Codes) {
         writes.push(code_write(random));
     }
@@ -89,26 +86,28 @@ fn random_operations(random: &mut Random, function: u32) -> u32 {
 fn map_writes(random: &mut Random, operations: &Operations, size: u32) -> Vec<Write> {
     let mut writes = Vec::new();
     for (index, format) in (0..4).zip(map_formats(random, operations)) {
-        let (width, height) = (side_register(random), side_register(random));
-        let needed = pixels::bytes_needed(width + 1, height + 1, 1 << format) as u32;
+        let (width, height) = (side(random), side(random));
+        let needed = pixels::bytes_needed(width, height, 1 << format) as u32;
         let base = random.below(size - needed + 1);
         let (base, format) = if is_used(operations, index) || random.once_in(2) {
             (base, format)
         } else {
             (random.word(), random.below(16))
         };
-        writes.push((0x12, 1, index));
-        writes.push((0x14, 4, base));
-        writes.push((0x18, 4, height << 16 | width));
-        writes.push((0x1C, 1, format));
+        writes.extend(writes::map(
+            index,
+            base,
+            (width.into(), height.into()),
+            format,
+        ));
     }
     writes.push((0x12, 1, random.below(4)));
     writes
 }
 
-/// A width or height, more often long than short.
-fn side_register(random: &mut Random) -> u32 {
-    random.below(MAP_SIDE).max(random.below(MAP_SIDE))
+/// The pixels along a side, more often many than few.
+fn side(random: &mut Random) -> u32 {
+    1 + random.below(MAP_SIDE).max(random.below(MAP_SIDE))
 }
 
 /// Whether the operations use the map of an index.
@@ -202,5 +201,5 @@ fn code_write(random: &mut Random) -> Write {
         };
         codes << 8 | code
     });
-    (STEPS_START + 1 - length, length, codes)
+    writes::codes(length, codes)
 }

@@ -1,15 +1,11 @@
-//! Random drawings, writes, images and damaged records: no call panics, and every record stays valid.
+//! The independent program on random drawings, writes, images and damaged records: no call panics, and every record stays valid.
 
-use model::random::Random;
-use model::random_damage::damage;
-use model::random_drawings::{drawing, started, FUNCTIONS};
-use model::{Coprocessor, Drawing};
+mod common;
 
-/// A drawing just started, of any function.
-fn any_started(random: &mut Random) -> (Coprocessor, Vec<u8>) {
-    let function = random.pick(&FUNCTIONS);
-    started(&drawing(random, function))
-}
+use common::{any_started, damage};
+use compare::random::Random;
+use compare::random_drawings::{drawing, FUNCTIONS};
+use model::{image, Coprocessor, Drawing};
 
 #[test]
 fn every_write_of_a_random_drawing_is_accepted() {
@@ -96,17 +92,18 @@ fn a_changed_image_loads_to_a_valid_record_or_leaves_the_old_one() {
     for _ in 0..3_000 {
         let (mut coprocessor, mut memory) = any_started(&mut random);
         coprocessor.run(&mut memory, random.below(30));
-        let mut image = [0; 115];
-        assert_eq!(coprocessor.save(&mut image), 0);
+        let mut bytes = [0; image::LENGTH];
+        assert_eq!(coprocessor.save(&mut bytes), 0);
         for _ in 0..=random.below(2) {
-            image[random.below(115) as usize] = random.word() as u8;
+            let place = random.below(image::LENGTH as u32) as usize;
+            bytes[place] = random.word() as u8;
         }
         let before = coprocessor.clone();
-        if coprocessor.load(&image) == 0 {
+        if coprocessor.load(&bytes) == 0 {
             accepted += 1;
-            let mut again = [0; 115];
+            let mut again = [0; image::LENGTH];
             assert_eq!(coprocessor.save(&mut again), 0);
-            assert_eq!(again, image);
+            assert_eq!(again, bytes);
             let mut memory = vec![0; coprocessor.size as usize];
             let expected = coprocessor.left().min(50);
             assert_eq!(coprocessor.run(&mut memory, 50), (0, expected as u32));
@@ -142,7 +139,7 @@ fn damaged_records_are_refused_without_a_panic() {
         assert_eq!(coprocessor.read(0x7C, 4), (10, 0));
         let (refusal, done) = coprocessor.run(&mut memory, 9);
         assert!(matches!(refusal, 9 | 10) && done == 0);
-        assert_eq!(coprocessor.save(&mut [0; 115]), 10);
+        assert_eq!(coprocessor.save(&mut [0; image::LENGTH]), 10);
         assert_eq!(coprocessor, before);
     }
     assert!(refused > 2_000);

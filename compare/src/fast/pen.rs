@@ -3,7 +3,7 @@
 use super::points::{Point, Step};
 use super::setup::{Pattern, Setup};
 use super::stretches::Stretch;
-use crate::registers::Registers;
+use model::registers::Registers;
 
 /// The pointers, E, and the positions done in this line, code or row.
 #[derive(Clone, Copy)]

@@ -1,8 +1,8 @@
-//! A drawing cut by save and load, or run by small allowances, ends as the uncut one (01, The functions; 01, State image).
+//! In the independent program a drawing cut by save and load, or run by small allowances, ends as the uncut one (01, The functions; 01, State image).
 
-use model::random::Random;
-use model::random_drawings::{drawing, started, RandomDrawing, FUNCTIONS};
-use model::{Coprocessor, Drawing};
+use compare::random::Random;
+use compare::random_drawings::{drawing, started, RandomDrawing, FUNCTIONS};
+use model::{image, Coprocessor, Drawing};
 
 /// The drawings of each function.
 const DRAWINGS: usize = 48;
@@ -31,9 +31,9 @@ fn others() -> Vec<Coprocessor> {
 fn moved(other: &Coprocessor, coprocessor: &Coprocessor) -> Coprocessor {
     let mut other = other.clone();
     assert_ne!(other, *coprocessor);
-    let mut image = [0; 115];
-    assert_eq!(coprocessor.save(&mut image), 0);
-    assert_eq!(other.load(&image), 0);
+    let mut bytes = [0; image::LENGTH];
+    assert_eq!(coprocessor.save(&mut bytes), 0);
+    assert_eq!(other.load(&bytes), 0);
     assert_eq!(other, *coprocessor);
     other
 }

@@ -1,12 +1,12 @@
 //! Refusal 10 on a record, asked of its fields (01, State image).
 
-use crate::codes::{self, Code};
-use crate::coprocessor::{is_within_limit, Coprocessor};
-use crate::drawing::Drawing;
-use crate::map::Map;
-use crate::mixes::LAST_MIX;
-use crate::operations::{self, Kind, Operations};
-use crate::registers::Registers;
+use model::codes::{self, Code};
+use model::coprocessor::{is_within_limit, Coprocessor};
+use model::drawing::Drawing;
+use model::map::Map;
+use model::mixes::LAST_MIX;
+use model::operations::{self, Kind, Operations};
+use model::registers::Registers;
 
 /// The largest number of 12 bits.
 const LAST_OF_12_BITS: u16 = 0xFFF;

@@ -1,9 +1,15 @@
-//! Random damage to a record.
+//! Random drawings just started, and random damage to a record.
 
-use crate::coprocessor::Coprocessor;
-use crate::drawing::Drawing;
-use crate::random::Random;
-use crate::registers::LISTED;
+use compare::random::Random;
+use compare::random_drawings::{drawing, started, FUNCTIONS};
+use model::registers::LISTED;
+use model::{Coprocessor, Drawing};
+
+/// A drawing just started, of any function, and its memory.
+pub fn any_started(random: &mut Random) -> (Coprocessor, Vec<u8>) {
+    let function = random.pick(&FUNCTIONS);
+    started(&drawing(random, function))
+}
 
 /// Puts random values, not reduced, into one register, the size or the drawing in hand of the record.
 pub fn damage(random: &mut Random, coprocessor: &mut Coprocessor) {

@@ -12,9 +12,9 @@ mod stretches;
 mod surfaces;
 mod valid;
 
-use crate::coprocessor::Coprocessor;
-use crate::operations::Kind;
-use crate::refusals::{Refusal, NONE};
+use model::coprocessor::Coprocessor;
+use model::operations::Kind;
+use model::refusals::{Refusal, NONE};
 use pen::Pen;
 use setup::Setup;
 use stretches::Stretch;
@@ -35,8 +35,8 @@ pub fn run(coprocessor: &mut Coprocessor, memory: &mut [u8], allowance: u32) -> 
     (NONE, draw(coprocessor, memory, allowance))
 }
 
-/// Positions one after another, until the allowance or the drawing ends: how many it did.
-pub(crate) fn draw(coprocessor: &mut Coprocessor, memory: &mut [u8], allowance: u32) -> u32 {
+/// Positions of a valid record one after another, until the allowance or the drawing ends: how many it did.
+pub fn draw(coprocessor: &mut Coprocessor, memory: &mut [u8], allowance: u32) -> u32 {
     let fields = coprocessor.registers.fields();
     if fields.kind() == Some(Kind::Fill) {
         draw_on::<FILL>(coprocessor, memory, allowance)

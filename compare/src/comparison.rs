@@ -1,61 +1,12 @@
-//! Holds the proved code against the independent program.
-//!
-//! usage: compare [seed=N] [leaves=N] [images=N] [drawings=N] [outlines=N] [sequences=N] [only=N]
-//!
-//! Compares mixes, conditions and pixels (`leaves` of each at random), state images, whole drawings, filled outlines with plain
-//! geometry, and sequences of calls; left out, the numbers are 1, 1,000,000, 20,000, 10,000, 20,000 and 120,000.
-//! A part of which 0 is asked is left out; `only` repeats the sequence of that number alone and tells its calls.
-//! The last line is `no difference`, or the first difference is told after `DIFFERENCE:` and the exit status is not 0.
+//! Every part of the comparison, in the order in which it is told.
 
-mod arguments;
-mod between;
-mod board;
-mod calls;
-mod damage;
-mod drawings;
-mod guarded;
-mod images;
-mod leaves;
-mod memories;
-mod mixes;
-mod others;
-mod outlines;
-mod pair;
-mod panics;
-mod pixels;
-mod report;
-mod rules;
-mod sequences;
-mod set_ups;
-mod shelf;
-mod states;
+use crate::arguments::Arguments;
+use crate::others::Others;
+use crate::random::Random;
+use crate::{drawings, images, mixes, outlines, panics, pixels, sequences};
 
-use arguments::Arguments;
-use model::random::Random;
-use others::Others;
-use std::process::ExitCode;
-
-fn main() -> ExitCode {
-    let arguments = match Arguments::of(std::env::args().skip(1)) {
-        Ok(arguments) => arguments,
-        Err(usage) => {
-            eprintln!("{usage}");
-            return ExitCode::FAILURE;
-        }
-    };
-    match panics::caught(|| all(&arguments)) {
-        Ok(()) => {
-            println!("no difference");
-            ExitCode::SUCCESS
-        }
-        Err(difference) => {
-            println!("DIFFERENCE: {difference}");
-            ExitCode::FAILURE
-        }
-    }
-}
-
-fn all(asked: &Arguments) -> Result<(), String> {
+/// Compares all that is asked for, and prints what each part met; an error is the first difference.
+pub fn all(asked: &Arguments) -> Result<(), String> {
     let seed = asked.seed;
     // Each part has random numbers of its own, so that its size does not change those of another.
     let random = |part: u64| Random::new(Random::new(seed).number().wrapping_sub(part));
@@ -71,7 +22,7 @@ fn all(asked: &Arguments) -> Result<(), String> {
     );
     std::thread::scope(|scope| {
         // The sequences, which take longest, go on beside the other parts, and are told after them.
-        let beside = scope.spawn(|| panics::caught(|| sequences(asked, &others)));
+        let beside = scope.spawn(|| panics::caught(|| of_sequences(asked, &others)));
         parts(asked, random, &others)?;
         let met = beside.join().expect("its panics are caught")?;
         print!("{met}");
@@ -80,7 +31,7 @@ fn all(asked: &Arguments) -> Result<(), String> {
 }
 
 /// Compares the sequences, and has what was met as text, empty where none is asked for.
-fn sequences(asked: &Arguments, others: &Others) -> Result<String, String> {
+fn of_sequences(asked: &Arguments, others: &Others) -> Result<String, String> {
     match asked.sequences {
         0 => Ok(String::new()),
         count => sequences::compare(asked.seed, count, others).map(|met| format!("{met}\n")),
@@ -88,11 +39,7 @@ fn sequences(asked: &Arguments, others: &Others) -> Result<String, String> {
 }
 
 /// Compares all parts but the sequences, one after another, and tells what each met.
-fn parts(
-    asked: &Arguments,
-    random: impl Fn(u64) -> Random,
-    others: &Others,
-) -> Result<(), String> {
+fn parts(asked: &Arguments, random: impl Fn(u64) -> Random, others: &Others) -> Result<(), String> {
     if asked.leaves > 0 {
         compare_leaves(&mut random(2), asked.leaves)?;
     }

@@ -1,8 +1,8 @@
 //! A pixel map as the loop uses it.
 
-use crate::map::Map;
-use crate::mixes;
-use crate::reach::{self, Role};
+use model::map::Map;
+use model::mixes;
+use model::reach::{self, Role};
 
 /// A map with its sizes worked out.
 pub(super) struct Surface {

@@ -5,9 +5,9 @@ use super::points::{Point, Step};
 use super::setup::{Null, Pattern, Setup};
 use super::surfaces::Surface;
 use super::BOUNDARY;
-use crate::codes::{self, Code};
-use crate::drawing::Drawing;
-use crate::operations::Kind;
+use model::codes::{self, Code};
+use model::drawing::Drawing;
+use model::operations::Kind;
 
 /// The stretch in hand.
 pub(super) struct Stretch {
