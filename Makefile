@@ -1,5 +1,6 @@
 # bench: plays lines on the bench program.   test: the whole gate.   compare: the proved code against the independent program.
 # speed: the proved code beside plain Rust.   picture: a motif in target/picture.pgm.   example: the sample line from C.
+# What is being proved, and how far the comparison is, goes to standard error.
 COUNT ?= 120000
 SEED ?= 1
 DRAWINGS ?= 10000
@@ -10,8 +11,7 @@ INPUT ?= crates/bench/stdin
 .PHONY: bench test compare speed picture example library
 
 bench:
-	@mkdir -p target
-	@rt check bench > target/bench.log 2>&1 || { cat target/bench.log; exit 1; }
+	@scripts/prove.sh check bench
 	@target/bin/bench < $(INPUT)
 
 test:
@@ -35,5 +35,5 @@ example: library
 	@diff target/sample.out c/sample.out && cat target/sample.out
 
 library:
-	@mkdir -p target
-	@for name in leaves board; do rt staticlib $$name > target/$$name.log 2>&1 || { cat target/$$name.log; exit 1; }; done
+	@scripts/prove.sh staticlib leaves
+	@scripts/prove.sh staticlib board

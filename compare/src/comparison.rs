@@ -2,6 +2,7 @@
 
 use crate::arguments::Arguments;
 use crate::others::Others;
+use crate::progress::Progress;
 use crate::random::Random;
 use crate::{drawings, images, mixes, outlines, panics, pixels, sequences};
 
@@ -20,58 +21,84 @@ pub fn all(asked: &Arguments) -> Result<(), String> {
         "seed {seed}: {} images, {} drawings, {} outlines, {} sequences",
         asked.images, asked.drawings, asked.outlines, asked.sequences
     );
+    let progress = Progress::new(parts_of(asked));
     std::thread::scope(|scope| {
         // The sequences, which take longest, go on beside the other parts, and are told after them.
-        let beside = scope.spawn(|| panics::caught(|| of_sequences(asked, &others)));
-        parts(asked, random, &others)?;
-        let met = beside.join().expect("its panics are caught")?;
-        print!("{met}");
+        let beside = scope.spawn(|| panics::caught(|| of_sequences(asked, &others, &progress)));
+        parts(asked, random, &others, &progress)?;
+        if let Some(met) = beside.join().expect("its panics are caught")? {
+            progress.print(met);
+        }
         Ok(())
     })
 }
 
-/// Compares the sequences, and has what was met as text, empty where none is asked for.
-fn of_sequences(asked: &Arguments, others: &Others) -> Result<String, String> {
+/// How many parts are asked for; the leaves are two, mixes and pixels.
+fn parts_of(asked: &Arguments) -> usize {
+    let leaves = [asked.leaves; 2];
+    let others = [
+        asked.images,
+        asked.drawings,
+        asked.outlines,
+        asked.sequences,
+    ];
+    let counts = leaves.iter().chain(&others);
+    counts.filter(|count| **count > 0).count()
+}
+
+/// Compares the sequences: what was met, if any is asked for.
+fn of_sequences(
+    asked: &Arguments,
+    others: &Others,
+    progress: &Progress,
+) -> Result<Option<sequences::Counts>, String> {
     match asked.sequences {
-        0 => Ok(String::new()),
-        count => sequences::compare(asked.seed, count, others).map(|met| format!("{met}\n")),
+        0 => Ok(None),
+        count => {
+            sequences::compare(asked.seed, progress.steps("sequences", count), others).map(Some)
+        }
     }
 }
 
 /// Compares all parts but the sequences, one after another, and tells what each met.
-fn parts(asked: &Arguments, random: impl Fn(u64) -> Random, others: &Others) -> Result<(), String> {
+fn parts(
+    asked: &Arguments,
+    random: impl Fn(u64) -> Random,
+    others: &Others,
+    progress: &Progress,
+) -> Result<(), String> {
     if asked.leaves > 0 {
-        compare_leaves(&mut random(2), asked.leaves)?;
+        compare_leaves(&mut random(2), asked.leaves, progress)?;
     }
     if asked.images > 0 {
-        let met = images::compare(&mut random(3), asked.images, others)?;
-        println!("{met}");
+        let steps = progress.steps("images", asked.images);
+        progress.print(images::compare(&mut random(3), steps, others)?);
     }
     if asked.drawings > 0 {
-        let met = drawings::compare(&mut random(4), random(5), asked.drawings, others)?;
-        println!("{met}");
+        let steps = progress.steps("drawings", asked.drawings);
+        progress.print(drawings::compare(&mut random(4), random(5), steps, others)?);
     }
     if asked.outlines > 0 {
-        let met = outlines::compare(&mut random(6), asked.outlines)?;
-        println!("{met}");
+        let steps = progress.steps("outlines", asked.outlines);
+        progress.print(outlines::compare(&mut random(6), steps)?);
     }
     Ok(())
 }
 
-fn compare_leaves(random: &mut Random, count: u64) -> Result<(), String> {
-    let met = mixes::compare(random, count)?;
-    println!(
+fn compare_leaves(random: &mut Random, count: u64, progress: &Progress) -> Result<(), String> {
+    let met = mixes::compare(random, progress.steps("mixes", count))?;
+    progress.print(format_args!(
         "mixes: {} compared, {} changed the pixel",
         met.mixes, met.changed
-    );
-    println!(
+    ));
+    progress.print(format_args!(
         "conditions: {} compared, {} held",
         met.conditions, met.holding
-    );
-    let met = pixels::compare(random, count)?;
-    println!(
+    ));
+    let met = pixels::compare(random, progress.steps("pixels", count))?;
+    progress.print(format_args!(
         "pixels: {} compared ({:?} of 1, 2, 4, 8 bits), {} beyond the memory, {} changed it",
         met.compared, met.sizes, met.beyond, met.changed
-    );
+    ));
     Ok(())
 }

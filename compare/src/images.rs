@@ -3,6 +3,7 @@
 use crate::damage;
 use crate::memories::Memories;
 use crate::others::Others;
+use crate::progress::Steps;
 use crate::random::Random;
 use crate::report;
 use crate::rules::{self, Rule};
@@ -27,8 +28,9 @@ pub struct Counts {
     rules: Vec<Rule>,
 }
 
-/// Compares `count` images; each rule is broken by itself as often as each other.
-pub fn compare(random: &mut Random, count: u64, others: &Others) -> Result<Counts, String> {
+/// Compares an image in each step; each rule is broken by itself as often as each other.
+pub fn compare(random: &mut Random, steps: Steps, others: &Others) -> Result<Counts, String> {
+    let count = steps.asked;
     let mut rules = rules::all();
     let mut turn = (0..rules.len()).cycle();
     let mut counts = Counts::default();
@@ -38,7 +40,7 @@ pub fn compare(random: &mut Random, count: u64, others: &Others) -> Result<Count
         others,
         memories: Memories::of(&[]),
     };
-    for number in 0..count {
+    for number in steps {
         let mut image = images.any();
         let is_loaded = match number % 10 {
             0 => {

@@ -24,6 +24,7 @@ mod others;
 mod outlines;
 mod pair;
 mod pixels;
+mod progress;
 mod report;
 mod rules;
 mod sequences;

@@ -1,6 +1,7 @@
 //! Mixes and compare conditions: every case of small pixels, and random ones of 8 bits.
 
 use crate::leaves;
+use crate::progress::Steps;
 use crate::random::Random;
 
 const CODES: u32 = 22;
@@ -17,8 +18,8 @@ pub struct Counts {
     pub changed: u64,
 }
 
-/// Compares every code, source, destination and mask of pixels up to 4 bits, and `count` random ones of 8.
-pub fn compare(random: &mut Random, count: u64) -> Result<Counts, String> {
+/// Compares every code, source, destination and mask of pixels up to 4 bits, and in each step random ones of 8.
+pub fn compare(random: &mut Random, steps: Steps) -> Result<Counts, String> {
     let mut counts = Counts::default();
     for bits in SMALL {
         for planes in 0..1 << bits {
@@ -34,7 +35,7 @@ pub fn compare(random: &mut Random, count: u64) -> Result<Counts, String> {
             }
         }
     }
-    for _ in 0..count {
+    for _ in steps {
         // Words wider than the pixel show that only its low bits count.
         let (planes, s, d) = (random.word(), random.word(), random.word());
         one_mix(&mut counts, random.below(CODES), LARGE, planes, s, d)?;

@@ -1,6 +1,7 @@
 //! Pixels in memory: the proved code and the independent program on random maps and memories.
 
 use crate::leaves::{self, Map};
+use crate::progress::Steps;
 use crate::random::Random;
 
 const GUARD: usize = 16;
@@ -14,10 +15,10 @@ pub struct Counts {
     pub sizes: [u64; 4],
 }
 
-/// Compares `count` pixels, each read, written and read again, in memory between guard bytes.
-pub fn compare(random: &mut Random, count: u64) -> Result<Counts, String> {
+/// Compares a pixel in each step: read, written and read again, in memory between guard bytes.
+pub fn compare(random: &mut Random, steps: Steps) -> Result<Counts, String> {
     let mut counts = Counts::default();
-    for _ in 0..count {
+    for _ in steps {
         let length = 1 + random.below(96) as usize;
         let map = Map {
             base: random.below(24),

@@ -9,6 +9,7 @@ mod counts;
 use crate::between::Between;
 use crate::others::Others;
 use crate::panics;
+use crate::progress::Steps;
 use crate::random::Random;
 use crate::random_drawings::{self, RandomDrawing, FUNCTIONS};
 use board::Board;
@@ -20,16 +21,17 @@ const LONGEST_CUT: u32 = 64;
 /// The drawings from which on all that may be done between two runs, and every kind of area, must have been met.
 const MANY: u64 = 1_000;
 
-/// Compares `count` drawings of all functions in turn; what is done between their runs has random numbers of its own.
+/// Compares a drawing in each step, of all functions in turn; what is done between their runs has random numbers of its own.
 pub fn compare(
     random: &mut Random,
     random_between: Random,
-    count: u64,
+    steps: Steps,
     others: &Others,
 ) -> Result<Counts, String> {
+    let count = steps.asked;
     let mut counts = Counts::default();
     let mut between = Between::new(random_between, others);
-    for kind in (0..FUNCTIONS.len()).cycle().take(count as usize) {
+    for (_, kind) in steps.zip((0..FUNCTIONS.len()).cycle()) {
         let drawing = random_drawings::drawing(random, FUNCTIONS[kind]);
         let whole = || one(random, &drawing, others, &mut between, &mut counts);
         let positions =

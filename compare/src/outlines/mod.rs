@@ -9,6 +9,7 @@ mod shapes;
 mod station;
 
 use crate::panics;
+use crate::progress::Steps;
 use crate::random::Random;
 use counts::Counts;
 use edges::{Edge, Point};
@@ -19,10 +20,11 @@ use station::{Manner, Station};
 /// The outlines from which on every kind must have been met.
 const MANY: u64 = 1_000;
 
-/// Compares `count` outlines, by all means in turn.
-pub fn compare(random: &mut Random, count: u64) -> Result<Counts, String> {
+/// Compares an outline in each step, by all means in turn.
+pub fn compare(random: &mut Random, steps: Steps) -> Result<Counts, String> {
+    let count = steps.asked;
     let mut counts = Counts::default();
-    for means in MEANS.into_iter().cycle().take(count as usize) {
+    for (_, means) in steps.zip(MEANS.into_iter().cycle()) {
         let outline = Outline::random(random, means);
         counts.note_outline(means, &outline);
         panics::caught(|| one(random, &outline, &mut counts))

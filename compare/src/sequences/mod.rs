@@ -8,16 +8,18 @@ pub use counts::Counts;
 
 use crate::others::Others;
 use crate::panics;
+use crate::progress::Steps;
 use crate::random::Random;
 use sequence::Sequence;
 
 /// The sequences from which on every number that a call can answer with must have been met.
 const MANY: u64 = 20_000;
 
-/// Compares so many sequences of a seed, each with a seed of its own.
-pub fn compare(seed: u64, count: u64, others: &Others) -> Result<Counts, String> {
+/// Compares a sequence of a seed in each step, each with a seed of its own.
+pub fn compare(seed: u64, steps: Steps, others: &Others) -> Result<Counts, String> {
+    let count = steps.asked;
     let mut counts = Counts::default();
-    for number in 0..count {
+    for number in steps {
         one(seed, number, others, &mut counts, false)?;
     }
     match counts.never_met().filter(|_| count >= MANY) {
