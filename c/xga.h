@@ -3,8 +3,8 @@
    An image is XGA_IMAGE_BYTES bytes, and the memory as many bytes as the state was made for. Each is passed as a
    pointer, which is not NULL, and its length; the two lie apart. No call keeps a pointer or allocates.
    A call answers XGA_ACCEPTED or its refusal; docs/manual/refusals.md says what to do about each. A refused call on a
-   state changes nothing; xga_fresh alone makes a state also where it is refused. The lowest refusal that applies is given,
-   but an image that does not load is refused as such at once, by every call that is given a state. */
+   state changes nothing; xga_fresh makes a state also where it refuses a size. The lowest refusal that applies is given,
+   but every other call refuses an image that does not load at once, whatever else applies. */
 #ifndef XGA_H
 #define XGA_H
 
