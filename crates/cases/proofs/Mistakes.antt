@@ -51,8 +51,9 @@ use Rattle.cases.specs.Mistakes.{cutLine, destinationInverted, eachCodeN
 use Rattle.cases.specs.Mistakes.{filledInPlace, firstCodeStops, insideAtStart, lowestNumber, maskBoundary, mistakes, noImage, notTiled}
 use Rattle.cases.specs.Mistakes.{onePosition, patternAlong, pointersTurned, risenAtStart, row, rowReturned, sizes, sourceForth, stillCode}
 use Rattle.cases.specs.Mistakes.{unlistedByte}
+use Rattle.cases.specs.Examples.{compared, compass, conditions, cornered, corners, eachEndNulled, examples, maskPixels, maskedConditions, towards}
 
-pub avoided : Played mistakes
+pub avoided : Played mistakes × Played examples
 unfolding numberOf byteOf partOf covers latchedBytes latched forth back residue circle field withField bitsOf startOf placeOf shiftOf neededOf byteAt
     pixelAt withPixel holdsOf conditionHolds tableBit logical gathered scattered worked arithmetic merged mixed touched taken mapReduced
     termReduced termsReduced pointReduced destinationReduced spotReduced registers among listed placed noneStopped countersHold pointersHold
@@ -72,5 +73,5 @@ unfolding numberOf byteOf partOf covers latchedBytes latched forth back residue 
     onBoundary isOne insideAt crossed takenOnto mapLatched termsLatched inkLatched compareLatched pointLatched spotLatched coloursLatched
     figureLatched pointersLatched registersLatched coloursReduced figureReduced registersReduced selected others freshRegisters withMoved
     pointersStarted travelOf brushOf depthOf mapValues otherValues valuesOf laidAt readFrom registerFields coloursFrom figureFrom pointersFrom
-    registersFrom
-avoided = (refl, (refl, (refl, (refl, (refl, (refl, (refl, (refl, (refl, (refl, (refl, (refl, (refl, (refl, (refl, (refl, (refl, (refl, (refl, (refl, (refl, (refl, (refl, (refl, (refl, (refl, (refl, (refl, (refl, (refl, (refl, tt)))))))))))))))))))))))))))))))
+    registersFrom compared conditions maskedConditions maskPixels towards compass cornered corners eachEndNulled examples
+avoided = ((refl, (refl, (refl, (refl, (refl, (refl, (refl, (refl, (refl, (refl, (refl, (refl, (refl, (refl, (refl, (refl, (refl, (refl, (refl, (refl, (refl, (refl, (refl, (refl, (refl, (refl, (refl, (refl, (refl, (refl, (refl, tt))))))))))))))))))))))))))))))), (refl, (refl, (refl, (refl, (refl, (refl, (refl, (refl, (refl, (refl, (refl, (refl, (refl, (refl, (refl, (refl, (refl, tt))))))))))))))))))
