@@ -61,6 +61,9 @@ holds 'the sample without its last newline'
 awk 'NR == 1 || NR == 5 { print "" } NR == 9 { print " \t " } { print }' crates/bench/stdin >"$work/in"
 holds 'the sample with blank lines'
 
+awk '/^w/ { $4 = "F" substr("00000000", length($4) + 1) $4 } /^r 9/ { $2 = "4294967296" } { print }' crates/bench/stdin >"$work/in"
+holds 'the sample with values and an allowance wider than 32 bits'
+
 case_of 'no input' '' ''
 case_of 'one newline' '\n' ''
 case_of 'blank lines print nothing and are counted' '\n \t \r\nw 12 1 1\n\nx\n' 'ok 0\nline 5: not a call\n'
@@ -69,8 +72,8 @@ case_of 'a last line without newline that is neither' 'r 1\nr' 'ok 0\nline 2: no
 case_of 'upper and lower case' 'W 12 1 1\nw 1c 1 3\nW 1C 1 3\nR 5\nw 58 4 aAbBcCdD\n' 'ok 0\nok 0\nok 0\nok 0\nok 0\n'
 
 case_of 'the largest numbers' 'r 4294967295\nw 58 4 FFFFFFFF\nw FFFFFFFF 1 0\nw 12 4294967295 0\n' 'ok 0\nok 0\nno 1\nno 1\n'
-case_of 'numbers that do not fit' 'r 4294967296\nw 58 4 100000000\nw 100000012 1 0\nw 12 4294967297 0\nr 99999999999999999999999999\n' \
-    'line 1: not a call\nline 2: not a call\nline 3: not a call\nline 4: not a call\nline 5: not a call\n'
+case_of 'offsets and lengths wider than 32 bits' 'w 100000012 1 0\nw 12 4294967297 0\nw 10000000000000012 18446744073709551617 0\n' 'no 1\nno 1\nno 1\n'
+case_of 'values and allowances wider than 32 bits' 'w 58 4 100000000\nr 4294967296\nr 99999999999999999999999999\n' 'ok 0\nok 0\nok 0\n'
 case_of 'leading zeros' 'r 00000000000000000000000000000000004294967295\nw 000000000012 0001 00000000000000001\n' 'ok 0\nok 0\n'
 
 case_of 'lines that are neither' \

@@ -37,7 +37,7 @@ use Rattle.coprocessor.specs.Valid.{goesOn, mapsReduced, reducedOf, startRefusa
 use Rattle.coprocessor.specs.Writes.{settledBy, started, startedRefusal, startsBy, stored, writeAnswer, writeRefusal}
 use Rattle.console.specs.Answers.{memoryAfter, outcomeOf, runTold, toldOf, writeTold}
 use Rattle.console.specs.Commands.{commandFrom, commandOf, isLetter, lineCommand, runFrom, runOf, writeFrom, writeOf}
-use Rattle.console.specs.Digits.{digitOf, digits, numberFrom, value, wordNumber}
+use Rattle.console.specs.Digits.{digitOf, digits, fitted, numberFrom, value, wordNumber}
 use Rattle.console.specs.Texts.{answerText, byteText, bytesText, decimal, hexDigit, memoryText, numbered, separatorOf}
 use Rattle.console.specs.Words.{isBlank, kept, lineWords, split}
 use Rattle.bench.specs.Printed.{byteBefore, firstState, lineAfter, lineText, linesOf, printed, stateAfter, stateAfterAll, textOfAll}
@@ -53,7 +53,7 @@ unfolding numberOf byteOf covers latchedBytes latched forth residue circle field
     isCompared fateOf isWithin columnOf onMap maskX maskY inMask isMove isFirst isLast nulledBy isNulled begun positioned stepped after
     sizeHolds freshOf setupOf penOf withPen ranOf runRefusal runAnswer runMemory startRefusalOf mapsReduced pointersReduced reducedOf goesOn
     validOf stored startsBy started startedRefusal writeRefusal settledBy writeAnswer isBlank kept split lineWords digitOf digits value
-    numberFrom wordNumber isLetter writeOf runOf writeFrom runFrom commandFrom commandOf lineCommand decimal numbered answerText hexDigit
+    fitted numberFrom wordNumber isLetter writeOf runOf writeFrom runFrom commandFrom commandOf lineCommand decimal numbered answerText hexDigit
     separatorOf byteText bytesText memoryText outcomeOf writeTold runTold toldOf memoryAfter byteBefore linesOf lineAfter stateAfter lineText
     stateAfterAll textOfAll firstState printed sampleInput sampleOutput withInside isFill modeOf edgeOf rises placeX crossed takenOnto
     mapLatched termsLatched inkLatched compareLatched pointLatched spotLatched coloursLatched figureLatched pointersLatched registersLatched

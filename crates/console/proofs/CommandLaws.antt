@@ -8,6 +8,7 @@ use lib.ListN.{length, getD}
 use lib.Dec.{eqb}
 use Rattle.console.specs.declared.Number.{Number}
 use Rattle.console.specs.declared.Number.the-variants.{Is, Not}
+use Rattle.console.specs.declared.Wide.the-variants.{Low, Largest}
 use Rattle.console.specs.declared.Command.the-variants.{Blank, Neither}
 use Rattle.console.specs.Words.{kept, lineWords}
 use Rattle.console.specs.Inner.{skipped, wordOf, nextOf}
@@ -29,20 +30,21 @@ third-none (Is offset) Not = refl
 third-none Not length = refl
 
 -- a word that is missing is no number
-write-kept : (a b c : List ℕ) → writeFrom (kept a (kept b (kept c []))) ≡ writeOf (wordNumber 16 a) (wordNumber 10 b) (wordNumber 16 c)
+write-kept : (a b c : List ℕ) → writeFrom (kept a (kept b (kept c []))) ≡ writeOf (wordNumber Largest 16 a) (wordNumber Largest 10 b) (wordNumber Low 16 c)
 unfolding kept wordNumber writeOf writeFrom
 write-kept [] [] [] = refl
 write-kept [] [] (z ∷ c) = refl
 write-kept [] (y ∷ b) [] = refl
 write-kept [] (y ∷ b) (z ∷ c) = refl
-write-kept (x ∷ a) [] [] = sym (second-none (wordNumber 16 (x ∷ a)) Not)
-write-kept (x ∷ a) [] (z ∷ c) = sym (second-none (wordNumber 16 (x ∷ a)) (wordNumber 16 (z ∷ c)))
-write-kept (x ∷ a) (y ∷ b) [] = sym (third-none (wordNumber 16 (x ∷ a)) (wordNumber 10 (y ∷ b)))
+write-kept (x ∷ a) [] [] = sym (second-none (wordNumber Largest 16 (x ∷ a)) Not)
+write-kept (x ∷ a) [] (z ∷ c) = sym (second-none (wordNumber Largest 16 (x ∷ a)) (wordNumber Low 16 (z ∷ c)))
+write-kept (x ∷ a) (y ∷ b) [] = sym (third-none (wordNumber Largest 16 (x ∷ a)) (wordNumber Largest 10 (y ∷ b)))
 write-kept (x ∷ a) (y ∷ b) (z ∷ c) = refl
 
 -- nothing follows the third word
 pub write-three : (args : List ℕ) → length (nextOf (nextOf (nextOf (skipped args)))) ≡ 0
-    → writeOf (wordNumber 16 (wordOf (skipped args))) (wordNumber 10 (wordOf (nextOf (skipped args)))) (wordNumber 16 (wordOf (nextOf (nextOf (skipped args)))))
+    → writeOf (wordNumber Largest 16 (wordOf (skipped args))) (wordNumber Largest 10 (wordOf (nextOf (skipped args))))
+    (wordNumber Low 16 (wordOf (nextOf (nextOf (skipped args)))))
     ≡ writeFrom (lineWords args)
 write-three args none =
     let s = skipped args in let t = nextOf s in let u = nextOf t in
@@ -58,12 +60,12 @@ write-more args some =
 
 -- ---- a run
 
-run-kept : (a : List ℕ) → runFrom (kept a []) ≡ runOf (wordNumber 10 a)
+run-kept : (a : List ℕ) → runFrom (kept a []) ≡ runOf (wordNumber Largest 10 a)
 unfolding kept wordNumber runOf runFrom
 run-kept [] = refl
 run-kept (x ∷ a) = refl
 
-pub run-one : (args : List ℕ) → length (nextOf (skipped args)) ≡ 0 → runOf (wordNumber 10 (wordOf (skipped args))) ≡ runFrom (lineWords args)
+pub run-one : (args : List ℕ) → length (nextOf (skipped args)) ≡ 0 → runOf (wordNumber Largest 10 (wordOf (skipped args))) ≡ runFrom (lineWords args)
 run-one args none =
     let s = skipped args in
     cc (words-skipped args, words-word s, words-none _ none, run-kept (wordOf s))

@@ -4,7 +4,7 @@ use mathlib.Core.List.{[], _∷_}
 use Rattle.console.specs.declared.Command.the-variants.{Write, Run, Blank, Neither}
 use Rattle.console.specs.declared.Answer.the-variants.{Done, Refused, Nothing, Neither as Unread}
 use Rattle.console.specs.Words.{isBlank, kept, split, lineWords}
-use Rattle.console.specs.Digits.{digitOf, digits, value, numberFrom, wordNumber}
+use Rattle.console.specs.Digits.{digitOf, digits, value, fitted, numberFrom, wordNumber}
 use Rattle.console.specs.Commands.{isLetter, writeOf, runOf, writeFrom, runFrom, commandFrom, commandOf}
 use Rattle.console.specs.Gathered.{commandIn}
 use Rattle.console.specs.Texts.{decimal, numbered, answerText, hexDigit, separatorOf, byteText, bytesText, memoryText}
@@ -29,13 +29,21 @@ pub lines-read :
     -- "r 4294967295"
     × (commandOf (0x72 ∷ 0x20 ∷ 0x34 ∷ 0x32 ∷ 0x39 ∷ 0x34 ∷ 0x39 ∷ 0x36 ∷ 0x37 ∷ 0x32 ∷ 0x39 ∷ 0x35 ∷ []) ≡ Run 4294967295)
     -- "r 4294967296"
-    × (commandOf (0x72 ∷ 0x20 ∷ 0x34 ∷ 0x32 ∷ 0x39 ∷ 0x34 ∷ 0x39 ∷ 0x36 ∷ 0x37 ∷ 0x32 ∷ 0x39 ∷ 0x36 ∷ []) ≡ Neither)
+    × (commandOf (0x72 ∷ 0x20 ∷ 0x34 ∷ 0x32 ∷ 0x39 ∷ 0x34 ∷ 0x39 ∷ 0x36 ∷ 0x37 ∷ 0x32 ∷ 0x39 ∷ 0x36 ∷ []) ≡ Run 4294967295)
+    -- "w 58 4 3000000AA"
+    × (commandOf (0x77 ∷ 0x20 ∷ 0x35 ∷ 0x38 ∷ 0x20 ∷ 0x34 ∷ 0x20 ∷ 0x33 ∷ 0x30 ∷ 0x30 ∷ 0x30 ∷ 0x30 ∷ 0x30 ∷ 0x30 ∷ 0x41 ∷ 0x41 ∷ []) ≡ Write 0x58 4 0xAA)
+    -- "w 100000012 1 0"
+    × (commandOf (0x77 ∷ 0x20 ∷ 0x31 ∷ 0x30 ∷ 0x30 ∷ 0x30 ∷ 0x30 ∷ 0x30 ∷ 0x30 ∷ 0x31 ∷ 0x32 ∷ 0x20 ∷ 0x31 ∷ 0x20 ∷ 0x30 ∷ []) ≡ Write 0xFFFFFFFF 1 0)
+    -- "w 12 4294967297 0"
+    × (commandOf (0x77 ∷ 0x20 ∷ 0x31 ∷ 0x32 ∷ 0x20 ∷ 0x34 ∷ 0x32 ∷ 0x39 ∷ 0x34 ∷ 0x39 ∷ 0x36 ∷ 0x37 ∷ 0x32 ∷ 0x39 ∷ 0x37 ∷ 0x20 ∷ 0x30 ∷ [])
+    ≡ Write 0x12 4294967295 0)
     -- "r 1" in a buffer of 3 bytes, which it fills
     × (commandIn (0x72 ∷ 0x20 ∷ 0x31 ∷ []) 3 ≡ Run 1)
     -- a line of more than 3 bytes, of which the first are "r 1"
     × (commandIn (0x72 ∷ 0x20 ∷ 0x31 ∷ []) 4 ≡ Neither)
-unfolding isBlank kept split lineWords digitOf digits value numberFrom wordNumber isLetter writeOf runOf writeFrom runFrom commandFrom commandOf commandIn
-lines-read = (refl, refl, refl, refl, refl, refl, refl, refl, refl, refl, refl)
+unfolding isBlank kept split lineWords digitOf digits value fitted numberFrom wordNumber isLetter writeOf runOf writeFrom runFrom commandFrom commandOf
+    commandIn
+lines-read = (refl, refl, refl, refl, refl, refl, refl, refl, refl, refl, refl, refl, refl, refl)
 
 -- ---- answers as text
 

@@ -1,5 +1,6 @@
 pub mod ScanLaws
 pub mod DigitLaws
+pub mod WideLaws
 pub mod WordLaws
 pub mod CommandLaws
 pub mod GatherLaws

@@ -7,6 +7,7 @@ use lib.Dec.{leb, eqb}
 use Rattle.numbers.specs.Choose.{choose}
 use Rattle.console.specs.declared.Number.{Number}
 use Rattle.console.specs.declared.Number.the-variants.{Is, Not}
+use Rattle.console.specs.declared.Wide.the-variants.{Low, Largest}
 use Rattle.console.specs.declared.Command.{Command}
 use Rattle.console.specs.declared.Command.the-variants.{Write, Run, Blank, Neither}
 use Rattle.console.specs.Words.{lineWords}
@@ -35,13 +36,13 @@ unfoldable pub writeFrom : List (List ℕ) → Command
 writeFrom [] = Neither
 writeFrom (offset ∷ []) = Neither
 writeFrom (offset ∷ length ∷ []) = Neither
-writeFrom (offset ∷ length ∷ value ∷ []) = writeOf (wordNumber 16 offset) (wordNumber 10 length) (wordNumber 16 value)
+writeFrom (offset ∷ length ∷ value ∷ []) = writeOf (wordNumber Largest 16 offset) (wordNumber Largest 10 length) (wordNumber Low 16 value)
 writeFrom (offset ∷ length ∷ value ∷ extra ∷ more) = Neither
 
 -- 01, the bench program: `r allowance` (decimal)
 unfoldable pub runFrom : List (List ℕ) → Command
 runFrom [] = Neither
-runFrom (allowance ∷ []) = runOf (wordNumber 10 allowance)
+runFrom (allowance ∷ []) = runOf (wordNumber Largest 10 allowance)
 runFrom (allowance ∷ extra ∷ more) = Neither
 
 -- 01, the bench program; docs/DECISIONS.md, 44: by the first word, W or w (87, 119) writes, R or r (82, 114) runs

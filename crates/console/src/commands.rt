@@ -7,6 +7,7 @@ ghost use Rattle.console.specs.Inner.{wordOf};
 ghost use Rattle.console.specs.Commands.{isLetter, writeOf, runOf, writeFrom, runFrom, commandOf};
 use crate::Command;
 use crate::Number;
+use crate::Wide;
 use crate::digits::number;
 use crate::words::next;
 use crate::words::skip;
@@ -57,11 +58,11 @@ fn run_of(allowance: Number) -> Command
 }
 
 // The number at the start, if it is one.
-fn number_at(s: &[u8], base: u64) -> Number
+fn number_at(s: &[u8], base: u64, wide: Wide) -> Number
     requires { ⌜ (1 ≤ base) × (base ≤ 16) ⌝ }
-    ensures { λ r. ⌜ r ≡ wordNumber base (wordOf (now (s .entry))) ⌝ }
+    ensures { λ r. ⌜ r ≡ wordNumber wide base (wordOf (now (s .entry))) ⌝ }
 {
-    number(word(s), base)
+    number(word(s), base, wide)
 }
 
 // A write, if three numbers follow and nothing else.
@@ -75,9 +76,9 @@ fn write_command(args: &[u8]) -> Command
     if rest.len() != 0 {
         return Command::Neither;
     }
-    let offset = number_at(first, 16);
-    let length = number_at(second, 10);
-    let value = number_at(third, 16);
+    let offset = number_at(first, 16, Wide::Largest);
+    let length = number_at(second, 10, Wide::Largest);
+    let value = number_at(third, 16, Wide::Low);
     write_of(offset, length, value)
 }
 
@@ -90,7 +91,7 @@ fn run_command(args: &[u8]) -> Command
     if rest.len() != 0 {
         return Command::Neither;
     }
-    run_of(number_at(first, 10))
+    run_of(number_at(first, 10, Wide::Largest))
 }
 
 // The command that a line is; a line of blanks asks for nothing, and any other is neither a write nor a run.

@@ -1,8 +1,9 @@
 // A word as a number.
 ghost use mathlib.Core.Path.{_≡_};
 ghost use Prim.Native.Nat.{_≤_};
-ghost use Rattle.console.specs.Digits.{digitOf, wordNumber};
+ghost use Rattle.console.specs.Digits.{digitOf, fitted, wordNumber};
 use crate::Number;
+use crate::Wide;
 
 // The largest number of 32 bits.
 const LARGEST: u64 = 4294967295;
@@ -19,10 +20,20 @@ fn digit_of(byte: u8) -> u64
     }
 }
 
-// The number that the word is, if it is one.
-pub(crate) fn number(word: &[u8], base: u64) -> Number
+// The number in 32 bits.
+fn fit(n: u64, wide: Wide) -> u64
+    ensures { λ r. ⌜ r ≡ fitted wide n ⌝ }
+{
+    match wide {
+        Wide::Low => n & LARGEST,
+        Wide::Largest => if n < LARGEST { n } else { LARGEST },
+    }
+}
+
+// The number that the word is, if it is one, in 32 bits.
+pub(crate) fn number(word: &[u8], base: u64, wide: Wide) -> Number
     requires { ⌜ (1 ≤ base) × (base ≤ 16) ⌝ }
-    ensures { λ r. ⌜ r ≡ wordNumber base (now (word .entry)) ⌝ }
+    ensures { λ r. ⌜ r ≡ wordNumber wide base (now (word .entry)) ⌝ }
 {
     if word.len() == 0 {
         return Number::Not;
@@ -34,10 +45,7 @@ pub(crate) fn number(word: &[u8], base: u64) -> Number
         if base <= digit {
             return Number::Not;
         }
-        n = n * base + digit;
-        if LARGEST < n {
-            return Number::Not;
-        }
+        n = fit(n * base + digit, wide);
         i += 1;
     }
     Number::Is(n as u32)

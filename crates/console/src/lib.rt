@@ -33,3 +33,9 @@ pub(crate) enum Number {
     Is(u32),
     Not,
 }
+
+// What stands for a number that is wider than 32 bits: its low bits, or the largest number.
+pub(crate) enum Wide {
+    Low,
+    Largest,
+}

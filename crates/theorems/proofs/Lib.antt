@@ -1,5 +1,6 @@
 pub mod TotalsAtStart
 pub mod RunCalls
+pub mod WideAllowance
 pub mod CutLaws
 pub mod GoingOn
 pub mod NoneBeyond
