@@ -1,3 +1,4 @@
 pub mod SessionLaws
 pub mod PrintedLaws
+pub mod ReadLaws
 pub mod Sample

@@ -1,3 +1,4 @@
 pub mod Printed
 pub mod Sample
 pub mod Inner
+pub mod Played

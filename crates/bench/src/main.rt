@@ -1,144 +1,129 @@
 // The bench: reads commands line by line from standard input, does them over 64 zero bytes, answers each, and shows the memory.
 ghost use mathlib.Core.Path.{_≡_};
-ghost use Rattle.bench.specs.Printed.{lineAfter};
-ghost use Rattle.bench.specs.Inner.{sessionOf, lineEnded, byteTaken, bytesTaken};
-use console::Answer;
-use console::answers::obey;
-use console::gather::command_in;
-use console::gather::gather;
-use console::texts::answer_text;
-use console::texts::memory_text;
-use coprocessor::Coprocessor;
+ghost use mathlib.Core.Bool.{false};
+ghost use Prim.Native.Nat.{_≤_, _<_};
+ghost use lib.ListN.{length, replicate};
+ghost use Rattle.io.specs.Counts.{Counts};
+ghost use Rattle.bench.specs.Inner.{sessionOf, emptied};
+ghost use Rattle.bench.specs.Played.{firstReading, readsOn, progressOf, Turned, Reads, Played};
+
+mod session;
+
+use crate::session::Bench;
+use crate::session::end_input;
+use crate::session::first_bench;
+use crate::session::take_piece;
 use libc::STDIN_FILENO;
 use libc::STDOUT_FILENO;
 
-// The bench between two bytes: the record, the bytes of the line under way, that line's number, and whether to go on.
-struct Bench {
-    board: Coprocessor,
-    count: usize,
-    line: u64,
+// The bench between two reads: whether there may be more to read, and how many reads are left. A proved loop has to end, and
+// nothing says that the input does, so they are counted down from a number that no run uses up.
+struct Reading {
+    bench: Bench,
     more: bool,
+    left: u64,
 }
 
-// The number after this one; the last that fits stays.
-fn next_line(line: u64) -> u64
-    ensures { λ r. ⌜ r ≡ lineAfter line ⌝ }
+// Before the first read.
+fn first_reading() -> Reading
+    ensures { λ r. ⌜ r ≡ firstReading ⌝ }
 {
-    if line < u64::MAX { line + 1 } else { line }
-}
-
-// Prints an answer, and says whether all of it was written.
-fn print(answer: Answer, line: u64) -> bool {
-    let mut text = [0u8; 40];
-    let n = answer_text(answer, line, &mut text);
-    io::write_all(STDOUT_FILENO, &text[..n])
-}
-
-// Does the line in the buffer, and begins the next one.
-fn end_line(bench: Bench, buffer: &[u8; 256], memory: &mut [u8; 64]) -> Bench
-    ensures { λ r. ⌜ sessionOf r (now (memory .exit)) (now (buffer .entry)) ≡ lineEnded (sessionOf bench (now (memory .entry)) (now (buffer .entry))) ⌝ }
-{
-    let command = command_in(buffer, bench.count);
-    let board = bench.board;
-    let told = obey(command, board, memory);
-    let answer = told.answer;
-    let next = told.coprocessor;
-    Bench {
-        board: next,
-        count: 0,
-        line: next_line(bench.line),
-        more: bench.more & print(answer, bench.line),
+    let bench = first_bench();
+    Reading {
+        bench,
+        more: true,
+        left: u64::MAX,
     }
 }
 
-// Takes one byte of the input.
-fn hear_byte(bench: Bench, byte: u8, buffer: &mut [u8; 256], memory: &mut [u8; 64]) -> Bench
-    ensures { λ r. ⌜ sessionOf r (now (memory .exit)) (now (buffer .exit)) ≡ byteTaken byte (sessionOf bench (now (memory .entry)) (now (buffer .entry))) ⌝ }
+// Whether to read again.
+fn reads_on(reading: Reading) -> bool
+    ensures { λ r. ⌜ r ≡ readsOn (reading .more) (reading .left) ⌝ }
 {
-    if byte == b'\n' {
-        return end_line(bench, buffer, memory);
-    }
-    let board = bench.board;
-    Bench {
-        board,
-        count: gather(buffer, bench.count, byte),
-        line: bench.line,
-        more: bench.more,
-    }
+    reading.more & (0 < reading.left)
 }
 
-// Takes a piece of the input byte by byte.
-fn take_piece(bench: Bench, piece: &[u8], buffer: &mut [u8; 256], memory: &mut [u8; 64]) -> Bench
-    ensures { λ r. ⌜ sessionOf r (now (memory .exit)) (now (buffer .exit))
-        ≡ bytesTaken (now (piece .entry)) (sessionOf bench (now (memory .entry)) (now (buffer .entry))) ⌝ }
+// Reads once, and answers how many bytes came, none at the input's end. Which bytes the system delivers no promise can say.
+fn hear(piece: &mut [u8; 1024]) -> usize
+    ensures { λ r. ⌜ Counts r (now (piece .exit)) ⌝ }
+    ensures { λ r. ⌜ r ≤ 1024 ⌝ }
 {
-    let mut state = bench;
-    let mut i = 0;
-    while i < piece.len() {
-        state = hear_byte(state, piece[i], buffer, memory);
-        i += 1;
-    }
-    state
+    let got = libc::read(STDIN_FILENO, piece);
+    io::count(got, piece)
 }
 
-// At the input's end there is nothing more.
-fn stop(bench: Bench) -> Bench {
+// Hands the text that waits on to the system, and lets none wait. That the system writes it no promise can say.
+fn hand_on(bench: Bench, out: &[u8]) -> Bench
+    requires { ⌜ bench .laid ≤ length (now out) ⌝ }
+    ensures { λ r. ⌜ r ≡ emptied bench ⌝ }
+{
+    let laid = bench.laid;
+    io::write_all(STDOUT_FILENO, &out[..laid]);
     let board = bench.board;
     Bench {
         board,
         count: bench.count,
         line: bench.line,
-        more: false,
+        laid: 0,
     }
 }
 
-// Reads once, and takes what came.
-fn read_piece(bench: Bench, buffer: &mut [u8; 256], memory: &mut [u8; 64]) -> Bench {
-    let mut piece = io::buffer();
-    let got = libc::read(STDIN_FILENO, &mut piece);
-    if got <= 0 {
-        return stop(bench);
+// Reads once, takes what came, and hands on what it prints.
+fn turn(
+    reading: Reading,
+    buffer: &mut [u8; 256],
+    memory: &mut [u8; 64],
+    out: &mut [u8; 65536],
+) -> Reading
+    requires { ⌜ (reading .bench .laid ≡ 0) × (0 < reading .left) ⌝ }
+    ensures { λ r. ⌜ Turned (progressOf reading (now (memory .entry)) (now (buffer .entry)) (now (out .entry)))
+        (progressOf r (now (memory .exit)) (now (buffer .exit)) (now (out .exit))) × (r .bench .laid ≡ 0) ⌝ }
+{
+    let mut piece = [0u8; 1024];
+    let came = hear(&mut piece);
+    let bench = reading.bench;
+    let taken = take_piece(bench, &piece[..came], buffer, memory, out);
+    let next = hand_on(taken, out);
+    Reading {
+        bench: next,
+        more: 0 < came,
+        left: reading.left - 1,
     }
-    let n = io::count(got, &piece);
-    take_piece(bench, &piece[..n], buffer, memory)
 }
 
-// Reads to the input's end. A proved loop has to end, and nothing says that the input does, so the loop counts its turns
-// down from a number that no run uses up.
-fn read_all(bench: Bench, buffer: &mut [u8; 256], memory: &mut [u8; 64]) -> Bench {
-    let mut state = bench;
-    let mut turns = u64::MAX;
-    while turns > 0 {
-        if !state.more {
-            return state;
-        }
-        state = read_piece(state, buffer, memory);
-        turns -= 1;
+// Reads to the input's end.
+fn read_all(
+    reading: Reading,
+    buffer: &mut [u8; 256],
+    memory: &mut [u8; 64],
+    out: &mut [u8; 65536],
+) -> Reading
+    requires { ⌜ reading .bench .laid ≡ 0 ⌝ }
+    ensures { λ r. ⌜ Reads (progressOf reading (now (memory .entry)) (now (buffer .entry)) (now (out .entry)))
+        (progressOf r (now (memory .exit)) (now (buffer .exit)) (now (out .exit))) × (readsOn (r .more) (r .left) ≡ false) × (r .bench .laid ≡ 0) ⌝ }
+{
+    let mut state = reading;
+    while reads_on(state) {
+        state = turn(state, buffer, memory, out);
     }
     state
 }
 
-// Prints the memory.
-fn show(memory: &[u8; 64]) {
-    let mut text = [0u8; 192];
-    memory_text(memory, &mut text);
-    io::write_all(STDOUT_FILENO, &text);
+// Plays the whole input over zero bytes, and hands on what it prints.
+fn play(buffer: &mut [u8; 256], memory: &mut [u8; 64], out: &mut [u8; 65536]) -> Bench
+    requires { ⌜ (now buffer ≡ replicate 256 0) × (now memory ≡ replicate 64 0) ⌝ }
+    ensures { λ r. ⌜ Played (sessionOf r (now (memory .exit)) (now (buffer .exit)) (now (out .exit))) ⌝ }
+{
+    let first = first_reading();
+    let read = read_all(first, buffer, memory, out);
+    let bench = read.bench;
+    let ended = end_input(bench, buffer, memory, out);
+    hand_on(ended, out)
 }
 
 fn main() {
-    let mut memory = [0u8; 64];
     let mut buffer = [0u8; 256];
-    let made = Coprocessor::fresh(64);
-    let board = made.coprocessor;
-    let bench = Bench {
-        board,
-        count: 0,
-        line: 1,
-        more: true,
-    };
-    let read = read_all(bench, &mut buffer, &mut memory);
-    if read.count > 0 {
-        end_line(read, &buffer, &mut memory);
-    }
-    show(&memory);
+    let mut memory = [0u8; 64];
+    let mut out = io::large_buffer();
+    play(&mut buffer, &mut memory, &mut out);
 }

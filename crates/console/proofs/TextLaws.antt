@@ -2,15 +2,17 @@
 use mathlib.Core.Path.{_≡_, refl, sym, _∙_}
 use mathlib.Core.List.{List, [], _∷_, _++_, append-nil, append-assoc}
 use Prim.Native.Nat.{ℕ, zero, suc, _+_, _-_, _*_, _/_, _%_, _≤_, _<_, zero-le, suc-le-suc}
-use native.Mathlib.Nat.{add-zero, add-suc, suc-add}
+use native.Mathlib.Nat.{zero-add, add-zero, add-suc, suc-add}
 use native.Mathlib.Numerals.{add-one}
 use native.Mathlib.Omega.{arith}
-use lib.ListN.{length, getD, set, drop, length-append, drop-of-length-le}
-use lib.Seq.{sets, sets-eq, drop-cons, length-take-le}
+use lib.ListN.{length, getD, set, take, drop, length-append, drop-of-length-le}
+use lib.Seq.{sets, sets-eq, length-sets, take-at, drop-cons, length-take-le}
 use lib.Dec.{ltb}
 use borrow.Author.Tests.{lt-ltb, le-ltb}
 use Rattle.numbers.proofs.Choices.{choose-either}
-use Rattle.console.specs.Texts.{decimal, numbered, Counted, byteText, bytesText, memoryText}
+use Rattle.console.specs.declared.Answer.{Answer}
+use Rattle.console.specs.declared.Answer.the-variants.{Done, Refused, Nothing, Neither}
+use Rattle.console.specs.Texts.{decimal, numbered, okay, no, line, unread, newline, answerText, Counted, byteText, bytesText, memoryText}
 
 -- one byte more is laid
 pub sets-next : (out text : List ℕ) (at i : ℕ) → i < length text
@@ -25,6 +27,16 @@ sets-append out at (x ∷ a) b = sets-append (set out at x) (suc at) a b ∙ rw 
 -- and one byte after a piece
 pub sets-last : (out : List ℕ) (at : ℕ) (a : List ℕ) (x : ℕ) → sets out at (a ++ (x ∷ [])) ≡ set (sets out at a) (at + length a) x
 sets-last out at a x = sets-append out at a (x ∷ [])
+
+-- what was laid stands after the bytes before it
+pub laid-after : (out text : List ℕ) (at : ℕ) → at + length text ≤ length out → take (at + length text) (sets out at text) ≡ take at out ++ text
+laid-after out text at room =
+    rw (sets-eq text out at room)
+    (take-at (take at out ++ text) _ (at + length text) (length-append (take at out) text ∙ rw (length-take-le at out (omega arith))))
+
+pub laid-alone : {n : ℕ} {out : List ℕ} (before text : List ℕ) → n ≡ length text → out ≡ sets before 0 text → n ≤ length out → take n out ≡ text
+laid-alone before text count laid room =
+    rw (count, laid) (rw (zero-add (length text)) at (laid-after before text 0 (omega (arith, rw (laid, length-sets before 0 text) at room))))
 
 -- ---- a number in decimal
 
@@ -69,6 +81,14 @@ pub counted : (before after : List ℕ) (n : ℕ) {r : ℕ} {φ : Type 0} (out :
 counted before after n {r} out laid room =
     let few = decimal-length 20 n in let whole = numbered-length before after n in let within : r ≤ length out = omega (arith, laid .0) in
     (laid, (within, sym (length-take-le r out within)))
+
+-- an answer is short
+pub answer-length : (answer : Answer) (at : ℕ) → length (answerText answer at) ≤ 40
+unfolding answerText
+answer-length (Done positions) at = omega (arith, numbered-length okay newline positions, decimal-length 20 positions)
+answer-length (Refused number) at = omega (arith, numbered-length no newline number, decimal-length 20 number)
+answer-length Nothing at = zero-le
+answer-length Neither at = omega (arith, numbered-length line unread at, decimal-length 20 at)
 
 -- ---- memory in hex
 

@@ -7,7 +7,7 @@ ghost use Rattle.console.specs.Texts.{decimal, numbered, answerText, Cou
 use crate::Answer;
 
 // Copies the text to this place, and answers the place after it.
-fn put(out: &mut [u8], at: usize, text: &[u8]) -> usize
+pub fn put(out: &mut [u8], at: usize, text: &[u8]) -> usize
     requires { ⌜ at + length (now text) ≤ length (now out) ⌝ }
     ensures { λ r. ⌜ (r ≡ at + length (now (text .entry))) × (now (out .exit) ≡ sets (now (out .entry)) at (now (text .entry))) ⌝ }
 {

@@ -29,6 +29,7 @@ use Rattle.console.proofs.answers.obey as obey
 use Rattle.console.proofs.commands.command_of as command-of
 use Rattle.console.proofs.gather.gather as gather
 use Rattle.console.proofs.gather.command_in as command-in
+use Rattle.console.proofs.texts.put as put
 use Rattle.console.proofs.texts.answer_text as answer-text
 use Rattle.console.proofs.texts.memory_text as memory-text
 use Rattle.theorems.specs.One.{One}
@@ -111,6 +112,9 @@ module _ {M : Type 1} (𝓤 : URA M) (H : Heap 𝓤) (A : Atoms 𝓤) (mem : Mem
 
   pub command-in-one : One 𝓤 command-in.ended (command-in.clauses 𝓤 H A mem runs)
   command-in-one κs a g r s m n = either 𝓤 (said 𝓤) (said 𝓤) (λ p q. (p ∙ sym q, refl))
+
+  pub put-one : One 𝓤 put.ended (put.clauses 𝓤 H A mem runs)
+  put-one κs a g r s m n = either 𝓤 (said 𝓤) (said 𝓤) (λ p q. (p .0 ∙ sym (q .0), λ i. ((p .1 ∙ sym (q .1)) i, (tt, (tt, tt)))))
 
   pub answer-text-one : One 𝓤 answer-text.ended (answer-text.clauses 𝓤 H A mem runs)
   answer-text-one κs a g r s m n = either 𝓤 (two 𝓤) (two 𝓤) (λ p q. (p .0 .0 ∙ sym (q .0 .0), λ i. (tt, (tt, ((p .0 .1 ∙ sym (q .0 .1)) i, tt)))))

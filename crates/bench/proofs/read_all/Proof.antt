@@ -1,46 +1,50 @@
--- `read_all` ends: the measure is the turns that are left.
+-- `read_all` reads while it reads on; the measure is the reads that are left.
+use mathlib.Core.Path.{_≡_, ap, sym, _∙_}
+use mathlib.Core.Bool.{Bool, true}
+use Prim.Native.Nat.{ℕ, _<_}
 use native.Mathlib.Omega.{arith}
+use lib.Dec.{ltb}
 use borrow.Author.Needs.{needs}
+use borrow.Author.Tests.{ltb-true}
+use Rattle.numbers.proofs.Choices.{and-right}
+use Rattle.bench.specs.Played.{readsOn, Progress, progressOf, turned, Reads, none, again}
 use Rattle.bench.proofs.read_all.Statement.{statement}
 use Rattle.bench.proofs.read_all.Tie as tie
 
 abbrev Inv-loop : tie.InvT-loop
-Inv-loop buffer₀ memory₀ state₀ turns₀ buffer memory state turns = Unit {0}
+Inv-loop buffer₀ memory₀ out₀ state₀ buffer memory out state =
+    Reads (progressOf state₀ memory₀ buffer₀ out₀) (progressOf state memory buffer out) × (state .bench .laid ≡ 0)
 
 abbrev μ-loop : tie.MeasureT-loop
-μ-loop buffer₀ memory₀ state₀ turns₀ buffer memory state turns = turns
+μ-loop buffer₀ memory₀ out₀ state₀ buffer memory out state = state .left
 
 loop-holds : tie.Need-loop-holds Inv-loop μ-loop
-loop-holds c = tt
+loop-holds c = (none, c .pre)
 
-returns : tie.Need-returns Inv-loop μ-loop
-returns c = search needs
+-- where it reads on, a read is left
+on : (c : tie.Then1 Inv-loop μ-loop) → let state = c .before .before .loop .state in readsOn (state .more) (state .left) ≡ true
+on c = sym (c .before .reads-on .ensures) ∙ c .if1 .taken
 
-read-piece-requires : tie.Need-read-piece-requires Inv-loop μ-loop
-read-piece-requires c κs = search needs
+some-left : (more : Bool) (left : ℕ) → readsOn more left ≡ true → 0 < left
+unfolding readsOn
+some-left more left h = ltb-true 0 left (and-right more (ltb 0 left) h)
 
-sub-turns : tie.Need-sub-turns Inv-loop μ-loop
-sub-turns c = omega arith
+turn-requires : tie.Need-turn-requires Inv-loop μ-loop
+turn-requires c κs = (c .before .before .before .before .before .loop .inv .1, some-left _ _ (on (c .before .before .before)))
 
 loop-less : tie.Need-loop-less Inv-loop μ-loop
-loop-less c = omega arith
+unfolding progressOf turned
+loop-less c = omega (arith, ap (λ (p : Progress). p .left) (c .turn .ensures .0 .same), some-left _ _ (on (c .before .before .before .before)))
 
 loop-again : tie.Need-loop-again Inv-loop μ-loop
-loop-again c = tt
+unfolding progressOf
+loop-again c =
+    let t = c .turn .ensures in
+    (rw (t .0 .same) (again (c .before .before .before .before .before .before .loop .inv .0) (on (c .before .before .before .before)) (t .0 .piece)), t .1)
 
-returns-2 : tie.Need-returns-2 Inv-loop μ-loop
-returns-2 c = search needs
+returns : tie.Need-returns Inv-loop μ-loop
+returns c = (c .before .before .loop .inv .0, sym (c .before .reads-on .ensures) ∙ c .if1 .left, c .before .before .loop .inv .1)
 
 pub read-all-spec : {M : Type 1} → statement M
 read-all-spec =
-    tie.close
-    (tie.spec
-    Inv-loop
-    μ-loop
-    loop-holds
-    returns
-    read-piece-requires
-    sub-turns
-    loop-less
-    loop-again
-    returns-2)
+    tie.close (tie.spec Inv-loop μ-loop loop-holds (λ c κs. search needs) turn-requires loop-less loop-again returns)

@@ -1,12 +1,13 @@
 -- `end_line` does the command that the buffer holds, and each part of the session is what the calls promise.
+use native.Mathlib.Omega.{arith}
 use borrow.Author.Needs.{needs}
 use Rattle.bench.specs.Inner.{sessionOf, lineEnded}
-use Rattle.bench.proofs.end_line.Statement.{statement}
-use Rattle.bench.proofs.end_line.Tie as tie
+use Rattle.bench.proofs.session.end_line.Statement.{statement}
+use Rattle.bench.proofs.session.end_line.Tie as tie
 
 returns : tie.Need-returns
 unfolding sessionOf lineEnded
-returns c = cc
+returns c = (cc, c .lay-answer .ensures .1)
 
 pub end-line-spec : {M : Type 1} → statement M
 end-line-spec =

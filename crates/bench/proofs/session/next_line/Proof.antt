@@ -2,8 +2,8 @@
 use borrow.Author.Tests.{lt-ltb, le-ltb}
 use borrow.Author.Needs.{needs}
 use Rattle.bench.specs.Printed.{lineAfter}
-use Rattle.bench.proofs.next_line.Statement.{statement}
-use Rattle.bench.proofs.next_line.Tie as tie
+use Rattle.bench.proofs.session.next_line.Statement.{statement}
+use Rattle.bench.proofs.session.next_line.Tie as tie
 
 returns : tie.Need-returns
 unfolding lineAfter
