@@ -3,7 +3,7 @@ use mathlib.Core.Path.{_≡_}
 use mathlib.Core.Bool.{Bool, true, false, _&&_}
 use mathlib.Core.List.{List, [], _++_}
 use Prim.Native.Nat.{ℕ, _-_}
-use lib.ListN.{length, replicate}
+use lib.ListN.{length, replicate, take}
 use lib.Dec.{ltb}
 use Rattle.bench.specs.declared.Reading.{Reading}
 use Rattle.bench.specs.Printed.{printed}
@@ -36,10 +36,10 @@ unfoldable pub turned : (piece : List ℕ) → Progress → Progress
 turned piece p =
     record { session = withText [] (bytesTaken piece (p .session)); more = ltb 0 (length piece); left = p .left - 1 }
 
--- some bytes came in between
-pub record Turned (p q : Progress) : Type 0 where
-  pub piece : List ℕ
-  pub same : q ≡ turned piece p
+-- in between some bytes came into the buffer of a read, which holds these then
+pub record Turned (held : List ℕ) (p q : Progress) : Type 0 where
+  pub came : ℕ
+  pub same : q ≡ turned (take came held) p
 
 -- reads one after another, each where it reads on
 pub data Reads (p : Progress) : Progress → Type 0 where

@@ -44,9 +44,9 @@ fn reads_on(reading: Reading) -> bool
 }
 
 // Reads once, and answers how many bytes came, none at the input's end. Which bytes the system delivers no promise can say.
-fn hear(piece: &mut [u8; 1024]) -> usize
+fn hear(piece: &mut [u8]) -> usize
     ensures { λ r. ⌜ Counts r (now (piece .exit)) ⌝ }
-    ensures { λ r. ⌜ r ≤ 1024 ⌝ }
+    ensures { λ r. ⌜ r ≤ length (now (piece .entry)) ⌝ }
 {
     let got = libc::read(STDIN_FILENO, piece);
     io::count(got, piece)
@@ -68,19 +68,19 @@ fn hand_on(bench: Bench, out: &[u8]) -> Bench
     }
 }
 
-// Reads once, takes what came, and hands on what it prints.
+// Reads once into the piece, takes what came there, and hands on what it prints.
 fn turn(
     reading: Reading,
+    piece: &mut [u8],
     buffer: &mut [u8; 256],
     memory: &mut [u8; 64],
     out: &mut [u8; 65536],
 ) -> Reading
-    requires { ⌜ (reading .bench .laid ≡ 0) × (0 < reading .left) ⌝ }
-    ensures { λ r. ⌜ Turned (progressOf reading (now (memory .entry)) (now (buffer .entry)) (now (out .entry)))
+    requires { ⌜ (reading .bench .laid ≡ 0) × (0 < reading .left) × (length (now piece) ≤ 1024) ⌝ }
+    ensures { λ r. ⌜ Turned (now (piece .exit)) (progressOf reading (now (memory .entry)) (now (buffer .entry)) (now (out .entry)))
         (progressOf r (now (memory .exit)) (now (buffer .exit)) (now (out .exit))) × (r .bench .laid ≡ 0) ⌝ }
 {
-    let mut piece = [0u8; 1024];
-    let came = hear(&mut piece);
+    let came = hear(piece);
     let bench = reading.bench;
     let taken = take_piece(bench, &piece[..came], buffer, memory, out);
     let next = hand_on(taken, out);
@@ -103,8 +103,9 @@ fn read_all(
         (progressOf r (now (memory .exit)) (now (buffer .exit)) (now (out .exit))) × (readsOn (r .more) (r .left) ≡ false) × (r .bench .laid ≡ 0) ⌝ }
 {
     let mut state = reading;
+    let mut piece = [0u8; 1024];
     while reads_on(state) {
-        state = turn(state, buffer, memory, out);
+        state = turn(state, &mut piece, buffer, memory, out);
     }
     state
 }

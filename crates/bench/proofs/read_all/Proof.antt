@@ -1,9 +1,10 @@
 -- `read_all` reads while it reads on; the measure is the reads that are left.
-use mathlib.Core.Path.{_≡_, ap, sym, _∙_}
+use mathlib.Core.Path.{_≡_, refl, ap, sym, _∙_}
 use mathlib.Core.Bool.{Bool, true}
 use Prim.Native.Nat.{ℕ, _<_}
 use native.Mathlib.Omega.{arith}
 use lib.Dec.{ltb}
+use lib.ListN.{length}
 use borrow.Author.Needs.{needs}
 use borrow.Author.Tests.{ltb-true}
 use Rattle.numbers.proofs.Choices.{and-right}
@@ -12,14 +13,14 @@ use Rattle.bench.proofs.read_all.Statement.{statement}
 use Rattle.bench.proofs.read_all.Tie as tie
 
 abbrev Inv-loop : tie.InvT-loop
-Inv-loop buffer₀ memory₀ out₀ state₀ buffer memory out state =
-    Reads (progressOf state₀ memory₀ buffer₀ out₀) (progressOf state memory buffer out) × (state .bench .laid ≡ 0)
+Inv-loop buffer₀ memory₀ out₀ state₀ piece₀ buffer memory out state piece =
+    Reads (progressOf state₀ memory₀ buffer₀ out₀) (progressOf state memory buffer out) × (state .bench .laid ≡ 0) × (length piece ≡ 1024)
 
 abbrev μ-loop : tie.MeasureT-loop
-μ-loop buffer₀ memory₀ out₀ state₀ buffer memory out state = state .left
+μ-loop buffer₀ memory₀ out₀ state₀ piece₀ buffer memory out state piece = state .left
 
 loop-holds : tie.Need-loop-holds Inv-loop μ-loop
-loop-holds c = (none, c .pre)
+loop-holds c = (none, c .pre, refl)
 
 -- where it reads on, a read is left
 on : (c : tie.Then1 Inv-loop μ-loop) → let state = c .before .before .loop .state in readsOn (state .more) (state .left) ≡ true
@@ -30,21 +31,21 @@ unfolding readsOn
 some-left more left h = ltb-true 0 left (and-right more (ltb 0 left) h)
 
 turn-requires : tie.Need-turn-requires Inv-loop μ-loop
-turn-requires c κs = (c .before .before .before .before .before .loop .inv .1, some-left _ _ (on (c .before .before .before)))
+turn-requires c κs = (c .before .before .before .before .before .before .loop .inv .1, some-left _ _ (on (c .before .before .before .before)), omega (arith, c .before .before .before .before .before .before .loop .inv .2))
 
 loop-less : tie.Need-loop-less Inv-loop μ-loop
 unfolding progressOf turned
-loop-less c = omega (arith, ap (λ (p : Progress). p .left) (c .turn .ensures .0 .same), some-left _ _ (on (c .before .before .before .before)))
+loop-less c = omega (arith, ap (λ (p : Progress). p .left) (c .before .turn .ensures .0 .same), some-left _ _ (on (c .before .before .before .before .before .before)))
 
 loop-again : tie.Need-loop-again Inv-loop μ-loop
 unfolding progressOf
 loop-again c =
-    let t = c .turn .ensures in
-    (rw (t .0 .same) (again (c .before .before .before .before .before .before .loop .inv .0) (on (c .before .before .before .before)) (t .0 .piece)), t .1)
+    let t = c .before .turn .ensures in
+    (rw (t .0 .same) (again (c .before .before .before .before .before .before .before .before .loop .inv .0) (on (c .before .before .before .before .before .before)) _), t .1, c .before .turn .kept .1 .0 ∙ c .before .before .before .before .before .before .before .before .loop .inv .2)
 
 returns : tie.Need-returns Inv-loop μ-loop
 returns c = (c .before .before .loop .inv .0, sym (c .before .reads-on .ensures) ∙ c .if1 .left, c .before .before .loop .inv .1)
 
 pub read-all-spec : {M : Type 1} → statement M
 read-all-spec =
-    tie.close (tie.spec Inv-loop μ-loop loop-holds (λ c κs. search needs) turn-requires loop-less loop-again returns)
+    tie.close (tie.spec Inv-loop μ-loop loop-holds (λ c κs. search needs) (λ c. sym (c .before .before .before .loop .inv .2)) turn-requires loop-less loop-again returns)

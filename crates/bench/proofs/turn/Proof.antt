@@ -3,7 +3,6 @@ use mathlib.Core.Path.{ap}
 use mathlib.Core.List.{[]}
 use Prim.Native.Nat.{_-_}
 use native.Mathlib.Omega.{arith}
-use lib.ListN.{take}
 use lib.Dec.{ltb}
 use borrow.Author.Needs.{needs}
 use Rattle.bench.specs.declared.session.Bench.{Bench}
@@ -13,18 +12,22 @@ use Rattle.bench.proofs.turn.Statement.{statement}
 use Rattle.bench.proofs.turn.Tie as tie
 
 take-piece-requires : tie.Need-take-piece-requires
-take-piece-requires c κs = let h = c .before .before .before .before .before in omega (arith, h .hear .ensures, h .before .before .pre .0)
+take-piece-requires c κs =
+    let h = c .before .before .before .before .before .before .before in omega (arith, h .hear .ensures, h .before .before .before .pre .0, h .before .before .before .pre .2)
 
-sub-t19 : tie.Need-sub-t19
-sub-t19 c = omega (arith, c .before .before .before .before .before .before .before .before .before .before .before .before .pre .1)
+sub-t20 : tie.Need-sub-t20
+sub-t20 c = omega (arith, c .before .before .before .before .before .before .before .before .before .before .before .before .before .before .before .pre .1)
+
+same-length : tie.Need-same-length
+same-length c = c .before .before .before .before .before .before .before .before .before .before .before .before .hear .kept .0
 
 returns : tie.Need-returns
 unfolding sessionOf emptied withText progressOf turned
 returns c =
-    let on = c .before .hand-on in let t = c .before .before .before .before in let h = t .before .before .before .before .before .before in
-    let left = h .before .before .args .reading .left - 1 in (
+    let on = c .before .hand-on in let t = c .before .before .before .before in let h = c .before .before .before .before .before .before .before .before .before .before .before .before in
+    let left = h .before .before .before .args .reading .left - 1 in (
       record {
-        piece = take (h .hear .result) (h .hear .last .0);
+        came = h .hear .result;
         same =
             rw (on .ensures, ← h .hear .ensures .0 .1)
             (λ i. record { session = withText [] (t .take-piece .ensures .0 i); more = ltb 0 (h .hear .result); left = left });
@@ -41,5 +44,6 @@ turn-spec =
     (λ c. search needs)
     take-piece-requires
     (λ c κs. search needs)
-    sub-t19
+    sub-t20
+    same-length
     returns)
