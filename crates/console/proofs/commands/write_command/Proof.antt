@@ -1,9 +1,6 @@
 -- `write_command` finds three words and what follows: if nothing does, they are all the words, and otherwise there are more than three.
-use mathlib.Core.Path.{_≡_}
 use native.Mathlib.Nat.{pos-of-ne-zero}
-use lib.ListN.{length}
 use borrow.Author.Needs.{needs}
-use Rattle.console.specs.Inner.{skipped, nextOf}
 use Rattle.console.proofs.CommandLaws.{write-three, write-more}
 use Rattle.console.proofs.commands.write_command.Statement.{statement}
 use Rattle.console.proofs.commands.write_command.Tie as tie
@@ -15,8 +12,17 @@ returns c =
 
 returns-2 : tie.Need-returns-2
 returns-2 c =
-    let args = c .before .before .before .before .before .before .before .before .before .before .args .args .now in
-    let none : length (nextOf (nextOf (nextOf (skipped args)))) ≡ 0 = cc in cc (write-three args none)
+    let third = c .before .before .before .before .before in let first = third .before .before in
+    rw (
+      c .write-of .ensures,
+      c .before .number-at3 .ensures,
+      c .before .before .number-at2 .ensures,
+      c .before .before .before .number-at .ensures,
+      third .before .next2 .ensures,
+      first .next .ensures,
+      first .before .skip .ensures,
+    )
+    (write-three _ (rw (third .next3 .ensures, third .before .next2 .ensures, first .next .ensures, first .before .skip .ensures) at (c .before .before .before .before .if1 .left)))
 
 pub write-command-spec : {M : Type 1} → statement M
 write-command-spec =

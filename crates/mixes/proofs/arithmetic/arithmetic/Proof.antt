@@ -36,7 +36,9 @@ scatter-requires c κs = search needs
 
 returns-2 : tie.Need-returns-2
 unfolding arithmetic
-returns-2 c = cc
+returns-2 c =
+    let third = c .before .before in
+    rw (c .scatter .ensures, c .before .work2 .ensures, third .gather3 .ensures, third .before .gather2 .ensures, third .before .before .gather .ensures)
 
 pub arithmetic-spec : {M : Type 1} → statement M
 arithmetic-spec =
