@@ -51,12 +51,12 @@ unfoldable pub heard : {p q : Progress} → Reads p q → List ℕ
 heard none = []
 heard (again reads on piece) = heard reads ++ piece
 
--- the text that was handed on in them
+-- the text that was laid in them, and handed on after each
 unfoldable pub told : {p q : Progress} → Reads p q → List ℕ
 told none = []
 told (again {q} reads on piece) = told reads ++ bytesTaken piece (q .session) .text
 
--- the whole input: reads to its end, then the last line and the memory; and all that was handed on is what is to be printed for the bytes that came
+-- the whole input: reads to its end, then the last line and the memory; and all text laid on the way is what is to be printed for the bytes that came
 pub record Played (end : Session) : Type 0 where
   pub last : Progress
   pub reads : Reads firstProgress last
