@@ -31,21 +31,36 @@ unfolding readsOn
 some-left more left h = ltb-true 0 left (and-right more (ltb 0 left) h)
 
 turn-requires : tie.Need-turn-requires Inv-loop μ-loop
-turn-requires c κs = (c .before .before .before .before .before .before .loop .inv .1, some-left _ _ (on (c .before .before .before .before)), omega (arith, c .before .before .before .before .before .before .loop .inv .2))
+turn-requires c κs =
+    let test = c .before .before .before .before in let state = test .before .before .loop .inv in
+    (state .1, some-left _ _ (on test), omega (arith, state .2))
 
 loop-less : tie.Need-loop-less Inv-loop μ-loop
 unfolding progressOf turned
-loop-less c = omega (arith, ap (λ (p : Progress). p .left) (c .before .turn .ensures .0 .same), some-left _ _ (on (c .before .before .before .before .before .before)))
+loop-less c =
+    let fell = ap (λ (p : Progress). p .left) (c .before .turn .ensures .0 .same) in
+    omega (arith, fell, some-left _ _ (on (c .before .before .before .before .before .before)))
 
 loop-again : tie.Need-loop-again Inv-loop μ-loop
 unfolding progressOf
 loop-again c =
     let t = c .before .turn .ensures in
-    (rw (t .0 .same) (again (c .before .before .before .before .before .before .before .before .loop .inv .0) (on (c .before .before .before .before .before .before)) _), t .1, c .before .turn .kept .1 .0 ∙ c .before .before .before .before .before .before .before .before .loop .inv .2)
+    let test = c .before .before .before .before .before .before in let state = test .before .before .loop .inv in
+    (rw (t .0 .same) (again (state .0) (on test) _), t .1, c .before .turn .kept .1 .0 ∙ state .2)
 
 returns : tie.Need-returns Inv-loop μ-loop
 returns c = (c .before .before .loop .inv .0, sym (c .before .reads-on .ensures) ∙ c .if1 .left, c .before .before .loop .inv .1)
 
 pub read-all-spec : {M : Type 1} → statement M
 read-all-spec =
-    tie.close (tie.spec Inv-loop μ-loop loop-holds (λ c κs. search needs) (λ c. sym (c .before .before .before .loop .inv .2)) turn-requires loop-less loop-again returns)
+    tie.close
+    (tie.spec
+    Inv-loop
+    μ-loop
+    loop-holds
+    (λ c κs. search needs)
+    (λ c. sym (c .before .before .before .loop .inv .2))
+    turn-requires
+    loop-less
+    loop-again
+    returns)

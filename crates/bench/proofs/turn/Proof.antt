@@ -13,7 +13,8 @@ use Rattle.bench.proofs.turn.Tie as tie
 
 take-piece-requires : tie.Need-take-piece-requires
 take-piece-requires c κs =
-    let h = c .before .before .before .before .before .before .before in omega (arith, h .hear .ensures, h .before .before .before .pre .0, h .before .before .before .pre .2)
+    let h = c .before .before .before .before .before .before .before in let asked = h .before .before .before .pre in
+    omega (arith, h .hear .ensures, asked .0, asked .2)
 
 sub-t20 : tie.Need-sub-t20
 sub-t20 c = omega (arith, c .before .before .before .before .before .before .before .before .before .before .before .before .before .before .before .pre .1)
@@ -24,7 +25,8 @@ same-length c = c .before .before .before .before .before .before .before .befor
 returns : tie.Need-returns
 unfolding sessionOf emptied withText progressOf turned
 returns c =
-    let on = c .before .hand-on in let t = c .before .before .before .before in let h = c .before .before .before .before .before .before .before .before .before .before .before .before in
+    let on = c .before .hand-on in let t = c .before .before .before .before in
+    let h = t .before .before .before .before .before .before .before .before in
     let left = h .before .before .before .args .reading .left - 1 in (
       record {
         came = h .hear .result;

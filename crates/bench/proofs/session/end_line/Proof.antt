@@ -8,8 +8,8 @@ use Rattle.bench.proofs.session.end_line.Tie as tie
 returns : tie.Need-returns
 unfolding sessionOf lineEnded
 returns c =
-    let told = c .before .before .before .before in
-    (rw (c .lay-answer .ensures .0, c .before .before .next-line .ensures, told .obey .ensures .0, told .obey .ensures .1, told .before .before .before .command-in .ensures), c .lay-answer .ensures .1)
+    let told = c .before .before .before .before in let known = told .before .before .before .command-in .ensures in
+    (rw (c .lay-answer .ensures .0, c .before .before .next-line .ensures, told .obey .ensures .0, told .obey .ensures .1, known), c .lay-answer .ensures .1)
 
 pub end-line-spec : {M : Type 1} → statement M
 end-line-spec =

@@ -12,7 +12,8 @@ returns c =
 
 returns-2 : tie.Need-returns-2
 returns-2 c =
-    let third = c .before .before .before .before .before in let first = third .before .before in
+    let test = c .before .before .before .before in let third = test .before in let first = third .before .before in
+    let none = rw (third .next3 .ensures, third .before .next2 .ensures, first .next .ensures, first .before .skip .ensures) at (test .if1 .left) in
     rw (
       c .write-of .ensures,
       c .before .number-at3 .ensures,
@@ -22,7 +23,7 @@ returns-2 c =
       first .next .ensures,
       first .before .skip .ensures,
     )
-    (write-three _ (rw (third .next3 .ensures, third .before .next2 .ensures, first .next .ensures, first .before .skip .ensures) at (c .before .before .before .before .if1 .left)))
+    (write-three _ none)
 
 pub write-command-spec : {M : Type 1} → statement M
 write-command-spec =
