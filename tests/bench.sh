@@ -85,10 +85,24 @@ case_of 'a line that is neither changes nothing' 'w 12 1 1\nw 14 4 1 1\nw 18 4 7
 case_of 'refusals 1, 3, 4 and 5' 'w 13 2 0\nw 12 3 0\nw 80 1 0\nw 12 0 0\nw 10 1 0\nw 7C 4 0\nw 7C 4 05008000\n' \
     'no 1\nno 1\nno 1\nno 1\nno 3\nno 4\nno 5\n'
 case_of 'refusal 6' 'w 12 1 1\nw 1C 1 3\nw 48 1 16\nw 7C 4 05018000\n' 'ok 0\nok 0\nok 0\nno 6\n'
-case_of 'refusal 7' 'w 12 1 1\nw 1C 1 8\nw 7C 4 05018000\n' 'ok 0\nok 0\nno 7\n'
+case_of 'refusal 7' 'w 12 1 1\nw 1C 1 4\nw 7C 4 05018000\n' 'ok 0\nok 0\nno 7\n'
 case_of 'refusal 8' 'w 12 1 1\nw 14 4 1\nw 18 4 70007\nw 1C 1 3\nw 7C 4 05018000\n' 'ok 0\nok 0\nok 0\nok 0\nno 8\n'
 case_of 'refusal 2, until the drawing is done' 'w 12 1 1\nw 4A 1 0\nw 7C 4 05018000\nw 12 1 0\nr 0\nw 12 1 0\nr 7\nw 12 1 0\n' \
     'ok 0\nok 0\nok 0\nno 2\nok 0\nno 2\nok 1\nok 0\n'
+
+# 02, 101: three pixels of 2 bits in Motorola order, copied into Intel order; pixel code 4 is refused with the order bit too
+{
+    printf 'w 12 1 1\nw 18 2 7\nw 1C 1 C\nw 48 1 3\nw 4A 1 4\nw 50 4 FF\nw 58 4 1\nw 60 2 2\nw 20 4 FFFFFFFF\n'
+    printf 'w 7C 4 05018000\nw 1C 1 9\nw 7C 4 05018000\nr 9\n'
+    printf 'w 12 1 2\nw 14 4 2\nw 18 2 7\nw 1C 1 1\nw 60 2 7\nw 78 4 0\nw 7C 4 28128000\nr 9\n'
+} >"$work/in"
+{
+    for _ in 1 2 3 4 5 6 7 8 9; do echo 'ok 0'; done
+    printf 'no 7\nok 0\nok 0\nok 3\nok 0\nok 0\nok 0\nok 0\nok 0\nok 0\nok 0\nok 8\n'
+    echo '54 00 15 00 00 00 00 00 00 00 00 00 00 00 00 00'
+    memory | tail -n 3
+} >"$work/expected"
+holds 'a line in one order, copied into the other'
 
 # 02, 102: a leaf outlined by four codes in mode 11 and filled; a fill to the left is refused
 {

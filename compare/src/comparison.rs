@@ -97,8 +97,8 @@ fn compare_leaves(random: &mut Random, count: u64, progress: &Progress) -> Resul
     ));
     let met = pixels::compare(random, progress.steps("pixels", count))?;
     progress.print(format_args!(
-        "pixels: {} compared ({:?} of 1, 2, 4, 8 bits), {} beyond the memory, {} changed it",
-        met.compared, met.sizes, met.beyond, met.changed
+        "pixels: {} compared ({:?} of 1, 2, 4, 8 bits), {} in Motorola order, {} beyond the memory, {} changed it",
+        met.compared, met.sizes, met.motorola, met.beyond, met.changed
     ));
     Ok(())
 }

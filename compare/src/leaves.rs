@@ -1,13 +1,6 @@
 //! The proved leaves, as the static library exports them.
 
-/// A pixel map as the leaves take it: widths and heights are one less than the size.
-#[derive(Clone, Copy, Debug)]
-pub struct Map {
-    pub base: u32,
-    pub width: u16,
-    pub height: u16,
-    pub format: u8,
-}
+use model::Map;
 
 mod exported {
     extern "C" {
@@ -61,7 +54,7 @@ pub fn needed(map: Map) -> u64 {
 }
 
 /// Pixel (x, y) of a map.
-pub fn get(memory: &[u8], map: Map, x: u16, y: u16) -> u32 {
+pub fn get(memory: &[u8], map: Map, (x, y): (u32, u32)) -> u32 {
     // SAFETY: the pointer and the length are those of one slice.
     unsafe {
         exported::leaf_get(
@@ -70,14 +63,14 @@ pub fn get(memory: &[u8], map: Map, x: u16, y: u16) -> u32 {
             map.base,
             map.width,
             map.format,
-            x,
-            y,
+            x as u16,
+            y as u16,
         )
     }
 }
 
 /// Makes pixel (x, y) of a map the low bits of `value`.
-pub fn put(memory: &mut [u8], map: Map, x: u16, y: u16, value: u32) {
+pub fn put(memory: &mut [u8], map: Map, (x, y): (u32, u32), value: u32) {
     // SAFETY: the pointer and the length are those of one slice, which is lent for the call.
     unsafe {
         exported::leaf_put(
@@ -86,8 +79,8 @@ pub fn put(memory: &mut [u8], map: Map, x: u16, y: u16, value: u32) {
             map.base,
             map.width,
             map.format,
-            x,
-            y,
+            x as u16,
+            y as u16,
             value,
         )
     }

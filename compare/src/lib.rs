@@ -20,6 +20,7 @@ mod images;
 mod leaves;
 mod memories;
 mod mixes;
+mod orders;
 mod others;
 mod outlines;
 mod pair;

@@ -1,7 +1,7 @@
 //! Random drawings that the start rules accept.
 
 use crate::random::Random;
-use crate::writes::{self, Write};
+use crate::writes::{self, Write, MOTOROLA};
 use model::codes;
 use model::operations::{self, Kind, Operations};
 use model::pixels;
@@ -24,6 +24,9 @@ const MAP_SIDE: u32 = 12;
 /// A memory that holds a map of that side with 8 bits.
 const LEAST_SIZE: u32 = MAP_SIDE * MAP_SIDE;
 
+/// The fields of the pixel operations that say which maps are used: sources, maps, pattern and mask.
+const MAP_FIELDS: u32 = 0xF0FF_F0C0;
+
 /// A drawing as a memory and the writes that set it up, of which the last starts it.
 #[derive(Clone, Debug)]
 pub struct RandomDrawing {
@@ -33,12 +36,34 @@ pub struct RandomDrawing {
     pub writes: Vec<Write>,
 }
 
-/// A random drawing of a function: small maps that may overlap, with every field the start rules accept.
+/// A random drawing of a function: small maps in any order that may overlap, with every field the start rules accept.
 pub fn drawing(random: &mut Random, function: u32) -> RandomDrawing {
+    let operations = random_operations(random, function);
+    let orders = [(); 4].map(|()| random.pick(&[0, MOTOROLA]));
+    of_operations(random, operations, orders)
+}
+
+/// One that uses four different maps; bit 0 of the mix makes the destination's order Motorola, bits 1 to 3 the source's, pattern's and mask's.
+pub fn drawing_of_four_maps(random: &mut Random, function: u32, mix: u32) -> RandomDrawing {
+    let sources = random.pick(&[0b0010, 0b1000, 0b1010]);
+    let maps = random.pick(&[0x123, 0x132, 0x213, 0x231, 0x312, 0x321]);
+    let fields = sources << 28 | maps << 12 | operations::MASK_ENABLED << 6;
+    let operations = random_operations(random, function) & !MAP_FIELDS | fields;
+
+    let used = Operations::of(operations);
+    let maps = [used.destination, used.source, used.pattern, 0];
+    let mut orders = [0; 4];
+    for (bit, map) in maps.into_iter().enumerate() {
+        orders[map as usize] = (mix >> bit & 1) * MOTOROLA;
+    }
+    of_operations(random, operations, orders)
+}
+
+/// A random drawing of these operations, with the order bits of M, A, B and C.
+fn of_operations(random: &mut Random, operations: u32, orders: [u32; 4]) -> RandomDrawing {
     let size = LEAST_SIZE + random.below(300);
     let memory = (0..size).map(|_| random.word() as u8).collect();
-    let operations = random_operations(random, function);
-    let mut writes = map_writes(random, &Operations::of(operations), size);
+    let mut writes = map_writes(random, &Operations::of(operations), orders, size);
     writes.extend(term_writes(random));
     writes.extend(pixel_writes(random));
     writes.extend(place_writes(random, &Operations::of(operations)));
@@ -82,15 +107,21 @@ fn random_operations(random: &mut Random, function: u32) -> u32 {
     fields | unused | source << 20
 }
 
-/// Writes for four small maps; those used have formats that go together and lie in the memory.
-fn map_writes(random: &mut Random, operations: &Operations, size: u32) -> Vec<Write> {
+/// Writes for four small maps; those used have pixel codes that go together and lie in the memory.
+fn map_writes(
+    random: &mut Random,
+    operations: &Operations,
+    orders: [u32; 4],
+    size: u32,
+) -> Vec<Write> {
     let mut writes = Vec::new();
-    for (index, format) in (0..4).zip(map_formats(random, operations)) {
+    let formats = pixel_codes(random, operations).into_iter().zip(orders);
+    for (index, (code, order)) in (0..).zip(formats) {
         let (width, height) = (side(random), side(random));
-        let needed = pixels::bytes_needed(width, height, 1 << format) as u32;
+        let needed = pixels::bytes_needed(width, height, 1 << code) as u32;
         let base = random.below(size - needed + 1);
         let (base, format) = if is_used(operations, index) || random.once_in(2) {
-            (base, format)
+            (base, code | order)
         } else {
             (random.word(), random.below(16))
         };
@@ -118,11 +149,11 @@ fn is_used(operations: &Operations, index: u32) -> bool {
         || (operations.uses_mask() && index == 0)
 }
 
-/// Formats of M, A, B and C: source as colour has the destination's, and the mask and pattern have 1 bit.
-fn map_formats(random: &mut Random, operations: &Operations) -> [u32; 4] {
-    let mut formats = [0; 4];
-    for format in &mut formats[1..] {
-        *format = random.below(4);
+/// Pixel codes of M, A, B and C: source as colour has the destination's, and the mask and pattern have 1 bit.
+fn pixel_codes(random: &mut Random, operations: &Operations) -> [u32; 4] {
+    let mut codes = [0; 4];
+    for code in &mut codes[1..] {
+        *code = random.below(4);
     }
     let [pattern, destination, source] = [
         operations.pattern,
@@ -131,17 +162,17 @@ fn map_formats(random: &mut Random, operations: &Operations) -> [u32; 4] {
     ]
     .map(|map| map as usize);
     if operations.uses_source_as_colour() {
-        formats[source] = formats[destination];
+        codes[source] = codes[destination];
     }
     if operations.uses_pattern() {
         let is_shared = pattern == destination || pattern == source;
         if is_shared && operations.uses_source_as_colour() {
-            formats[source] = 0;
-            formats[destination] = 0;
+            codes[source] = 0;
+            codes[destination] = 0;
         }
-        formats[pattern] = 0;
+        codes[pattern] = 0;
     }
-    formats
+    codes
 }
 
 /// Writes of E, K1, K2 and dimensions.

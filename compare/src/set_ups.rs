@@ -19,7 +19,7 @@ pub fn set_up(random: &mut Random) -> (Coprocessor, Write) {
         (0x7C, _, value) => value,
         _ => state.registers.operations,
     });
-    let is_of_one_bit = state.registers.map(operations.destination).format == 0;
+    let is_of_one_bit = state.registers.map(operations.destination).bits() == 1;
     if is_of_one_bit && random.once_in(2) {
         // Shared maps make half of the destinations 1 bit, which is too many.
         return set_up(random);
@@ -57,7 +57,8 @@ fn after_writes(size: u32, writes: &[Write]) -> Coprocessor {
 fn spread(random: &mut Random, state: &mut Coprocessor, operations: &Operations) {
     state.size = size(random);
     let registers = &mut state.registers;
-    for map in registers.maps.iter_mut().filter(|map| map.format <= 3) {
+    let maps = registers.maps.iter_mut();
+    for map in maps.filter(|map| map.pixel_code() <= 3) {
         place(random, map, state.size);
     }
     let (map, mask) = (*registers.map(operations.destination), registers.maps[0]);

@@ -37,6 +37,11 @@ pub fn is_inside(bytes: &[u8]) -> bool {
 
 /// The indexes of the maps that the stored operations use: destination, then source, pattern and mask map where used.
 pub fn used_maps(state: &Coprocessor) -> Vec<usize> {
+    maps_by_role(state).into_iter().flatten().collect()
+}
+
+/// The indexes of the destination, source, pattern and mask map, where the stored operations use them.
+pub fn maps_by_role(state: &Coprocessor) -> [Option<usize>; 4] {
     let operations = state.registers.fields();
     let roles = [
         (true, operations.destination),
@@ -44,8 +49,7 @@ pub fn used_maps(state: &Coprocessor) -> Vec<usize> {
         (operations.uses_pattern(), operations.pattern),
         (operations.uses_mask(), 0),
     ];
-    let used = roles.into_iter().filter(|(is_used, _)| *is_used);
-    used.map(|(_, map)| map as usize % 4).collect()
+    roles.map(|(is_used, map)| is_used.then_some(map as usize % 4))
 }
 
 /// Does some of the drawing's positions, or puts the drawing at any counters where a position remains.

@@ -13,6 +13,9 @@ pub const BITS_1: u32 = 0;
 pub const BITS_4: u32 = 2;
 pub const BITS_8: u32 = 3;
 
+/// The order bit of a format.
+pub const MOTOROLA: u32 = 8;
+
 /// Mixes.
 pub const MIX_SOURCE: u32 = 0x3;
 pub const MIX_DESTINATION: u32 = 0x5;

@@ -5,6 +5,7 @@ mod common;
 use common::{any_started, damage};
 use compare::fast;
 use compare::random::Random;
+use compare::random_drawings::{drawing_of_four_maps, started, FUNCTIONS};
 use compare::writes::{self, Write, BITS_1, BITS_8, MIX_SOURCE};
 use model::{image, Coprocessor};
 
@@ -30,6 +31,23 @@ fn drawings_in_one_run() {
         positions += u64::from(done);
     }
     assert!(positions > 60_000);
+}
+
+#[test]
+fn drawings_of_four_maps_in_every_mix_of_orders() {
+    let mut random = Random::new(7);
+    for function in FUNCTIONS {
+        for mix in 0..16 {
+            let mut changed = 0;
+            for _ in 0..40 {
+                let drawing = drawing_of_four_maps(&mut random, function, mix);
+                let (mut coprocessor, mut memory) = started(&drawing);
+                run(&mut coprocessor, &mut memory, u32::MAX);
+                changed += u32::from(memory != drawing.memory);
+            }
+            assert!(changed > 0, "function {function}, mix {mix:04b}");
+        }
+    }
 }
 
 #[test]

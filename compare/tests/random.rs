@@ -4,7 +4,8 @@ mod common;
 
 use common::{any_started, damage};
 use compare::random::Random;
-use compare::random_drawings::{drawing, FUNCTIONS};
+use compare::random_drawings::{drawing, drawing_of_four_maps, started, FUNCTIONS};
+use model::pixels::Order;
 use model::{image, Coprocessor, Drawing};
 
 #[test]
@@ -20,6 +21,26 @@ fn every_write_of_a_random_drawing_is_accepted() {
             }
             let is_begun = coprocessor.drawing.is_unfinished();
             assert!(is_begun || coprocessor.drawing == Drawing::Nothing { stopped: true });
+        }
+    }
+}
+
+#[test]
+fn a_drawing_of_four_maps_uses_them_in_the_orders_of_its_mix() {
+    let mut random = Random::new(7);
+    for function in FUNCTIONS {
+        for mix in 0..16 {
+            let (coprocessor, _) = started(&drawing_of_four_maps(&mut random, function, mix));
+            let registers = &coprocessor.registers;
+            let fields = registers.fields();
+            assert_eq!(fields.function, function);
+            assert!(fields.uses_source() && fields.uses_pattern() && fields.uses_mask());
+            let used = [fields.destination, fields.source, fields.pattern, 0];
+            for (bit, map) in used.into_iter().enumerate() {
+                let is_motorola = registers.map(map).order() == Order::Motorola;
+                assert_eq!(is_motorola, mix >> bit & 1 == 1);
+                assert!(!used[..bit].contains(&map));
+            }
         }
     }
 }

@@ -1,6 +1,6 @@
-//! A pixel map (01, Registers; 01, Maps and pointers).
+//! A pixel map (01, Registers; 01, Maps and pointers; 02, 101).
 
-use crate::pixels;
+use crate::pixels::{self, Layout, Order};
 
 /// The four registers of a pixel map, as stored.
 #[derive(Clone, Copy, Debug, Default, PartialEq, Eq)]
@@ -31,14 +31,28 @@ impl Map {
         self.format & 7
     }
 
-    /// 003:2543: whether the order bit, bit 3 of the format, is set.
-    pub fn has_order_bit(&self) -> bool {
-        self.format & 8 != 0
+    /// 003:2552: the order of the pixels, which bit 3 of the format chooses.
+    pub fn order(&self) -> Order {
+        if self.format & 8 == 0 {
+            Order::Intel
+        } else {
+            Order::Motorola
+        }
     }
 
     /// Formats 0 to 3 mean 1, 2, 4, 8 bits.
     pub fn bits(&self) -> u32 {
         1 << self.pixel_code()
+    }
+
+    /// How its pixels lie in memory.
+    pub fn layout(&self) -> Layout {
+        Layout {
+            base: self.base,
+            row_length: self.row_length(),
+            bits: self.bits(),
+            order: self.order(),
+        }
     }
 
     /// The first byte after the map.

@@ -17,22 +17,21 @@ pub enum Role {
 }
 
 /// The pixel of a map.
-pub(crate) fn read(role: Role, map: &Map, (x, y): (u32, u32), memory: &[u8]) -> u32 {
-    must_lie_within(role, map, (x, y), memory);
-    pixels::get(memory, map.base, map.row_length(), map.bits(), x, y)
+pub(crate) fn read(role: Role, map: &Map, place: (u32, u32), memory: &[u8]) -> u32 {
+    must_lie_within(role, map, place, memory);
+    pixels::get(memory, &map.layout(), place)
 }
 
 /// Makes the destination's pixel the value.
-pub(crate) fn write(map: &Map, (x, y): (u32, u32), memory: &mut [u8], value: u32) {
-    must_lie_within(Role::Destination, map, (x, y), memory);
-    pixels::put(memory, map.base, map.row_length(), map.bits(), x, y, value);
+pub(crate) fn write(map: &Map, place: (u32, u32), memory: &mut [u8], value: u32) {
+    must_lie_within(Role::Destination, map, place, memory);
+    pixels::put(memory, &map.layout(), place, value);
 }
 
 /// Panics where the pixel of a map lies beyond the memory.
-fn must_lie_within(role: Role, map: &Map, (x, y): (u32, u32), memory: &[u8]) {
-    let (base, row_length, bits) = (map.base, map.row_length(), map.bits());
-    if !pixels::lies_within(memory.len(), base, row_length, bits, x, y) {
-        fail(role, (x, y), memory.len());
+fn must_lie_within(role: Role, map: &Map, place: (u32, u32), memory: &[u8]) {
+    if !pixels::lies_within(memory.len(), &map.layout(), place) {
+        fail(role, place, memory.len());
     }
 }
 

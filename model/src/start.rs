@@ -56,13 +56,13 @@ fn fields_are_accepted(operations: &Operations) -> bool {
         && (operations.kind() != Some(Kind::Fill) || can_be_scanned)
 }
 
-/// Refusal 7, in the paper's order.
+/// Refusal 7, clause by clause; 02, 101: the order of a map's pixels gives none.
 fn formats_are_accepted(registers: &Registers, operations: &Operations) -> bool {
     let source = registers.map(operations.source);
     let destination = registers.map(operations.destination);
     let pattern = registers.map(operations.pattern);
 
-    used_maps(registers, operations).all(|map| map.pixel_code() <= 3 && !map.has_order_bit())
+    used_maps(registers, operations).all(|map| map.pixel_code() <= 3)
         && (!operations.uses_source_as_colour() || source.bits() == destination.bits())
         && (!operations.uses_pattern() || pattern.bits() == 1)
         && (!operations.uses_mask() || registers.mask_map().bits() == 1)

@@ -196,10 +196,10 @@ fn the_lowest_number_is_given_on_a_damaged_record() {
     board.coprocessor.registers.maps[1].height = 65_535;
     assert_eq!(board.refusal(0x7C, 4, 0x0801_8000), 8);
     let mut board = Board::square(4);
-    board.coprocessor.registers.maps[1].format = 0x13;
-    assert_eq!(board.refusal(0x7C, 4, 0x0801_8000), 10);
-    board.coprocessor.registers.maps[1].format = 0x18;
-    assert_eq!(board.refusal(0x7C, 4, 0x0801_8000), 7);
+    for (format, refusal) in [(0x13, 10), (0x1B, 10), (0x14, 7), (0x1C, 7)] {
+        board.coprocessor.registers.maps[1].format = format;
+        assert_eq!(board.refusal(0x7C, 4, 0x0801_8000), refusal);
+    }
 
     let mut board = unfinished();
     board.coprocessor.registers.index = 200;

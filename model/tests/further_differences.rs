@@ -66,7 +66,7 @@ fn an_unused_source_field_may_be_anything() {
 
 #[test]
 fn a_mask_map_of_another_size_than_1_bit_is_refused_when_enabled() {
-    for format in 1..16 {
+    for format in (1..8).chain(9..16) {
         let mut board = Board::square(4);
         board.map(0, 0, 1, 1, format);
         assert_eq!(board.refusal(0x7C, 4, 0x0801_8080), 7);

@@ -170,7 +170,7 @@ fn no_code_up_to_the_current_one_is_00() {
 
 #[test]
 fn a_drawing_image_keeps_the_start_rules() {
-    let rules: [(usize, &[u8], &str); 15] = [
+    let rules: [(usize, &[u8], &str); 14] = [
         (114, &[0x20], "function 0"),
         (114, &[0x2B], "function 11"),
         (114, &[0x15], "foreground source 01"),
@@ -181,7 +181,6 @@ fn a_drawing_image_keeps_the_start_rules() {
         (111, &[0xC0], "mask 11"),
         (68, &[0x16], "foreground mix"),
         (69, &[0x16], "background mix"),
-        (33, &[0x0B], "destination with the order bit"),
         (42, &[0], "source of another size"),
         (51, &[1], "pattern of 2 bits"),
         (25, &[1], "destination beyond the memory"),
@@ -190,15 +189,43 @@ fn a_drawing_image_keeps_the_start_rules() {
     for (at, bytes, rule) in rules {
         assert_breaks(changed(line().image(), at, bytes), rule);
     }
-    assert_breaks(
-        changed(block().image(), 33, &[4]),
-        "destination with pixel code 4",
-    );
     let with_mask = changed(line().image(), 111, &[0x80]);
     let (mut loaded, _) = Coprocessor::fresh(1);
     assert_eq!(loaded.load(&with_mask), 0);
     assert_breaks(changed(with_mask, 24, &[3]), "mask map of 8 bits");
     assert_breaks(changed(with_mask, 16, &[16]), "mask map beyond the memory");
+}
+
+#[test]
+fn a_used_maps_order_is_free_and_its_pixel_code_is_not() {
+    // A map of one pixel, which lies in the memory whatever its code.
+    let mut small = block().image();
+    small[29..33].fill(0);
+    for code in 0..8 {
+        for format in [code, code | 8] {
+            let image = changed(small, 33, &[format]);
+            if code <= 3 {
+                let (mut loaded, _) = Coprocessor::fresh(1);
+                assert_eq!(loaded.load(&image), 0, "format {format}");
+                assert_eq!(loaded.registers.maps[1].format, format);
+                let mut saved = [0; 115];
+                assert_eq!(loaded.save(&mut saved), 0);
+                assert_eq!(saved, image);
+            } else {
+                assert_breaks(image, "pixel code above 3");
+            }
+        }
+    }
+    // Formats of mask, destination, source and pattern, all used, each with an order of its own.
+    let with_mask = changed(line().image(), 111, &[0x80]);
+    for orders in 0..16u8 {
+        let mut image = with_mask;
+        for (map, at) in [24, 33, 42, 51].into_iter().enumerate() {
+            image[at] |= (orders >> map & 1) << 3;
+        }
+        let (mut loaded, _) = Coprocessor::fresh(1);
+        assert_eq!(loaded.load(&image), 0, "{orders:04b}");
+    }
 }
 
 #[test]

@@ -172,13 +172,13 @@ fn refusal_6_either_mix_above_15() {
 
 #[test]
 fn refusal_7_each_used_maps_format() {
-    // Map, operations that use it so, formats accepted.
+    // Map, operations that use it so, formats accepted: pixel codes in either order (02, 101).
     let uses: [(u32, u32, &[u32]); 5] = [
-        (1, 0x0801_8000, &[0, 1, 2, 3]),
-        (2, 0x0821_9000, &[0, 1, 2, 3]),
-        (2, 0x2821_8000, &[3]),
-        (2, 0x0801_2000, &[0]),
-        (0, 0x0801_8080, &[0]),
+        (1, 0x0801_8000, &[0, 1, 2, 3, 8, 9, 10, 11]),
+        (2, 0x0821_9000, &[0, 1, 2, 3, 8, 9, 10, 11]),
+        (2, 0x2821_8000, &[3, 11]),
+        (2, 0x0801_2000, &[0, 8]),
+        (0, 0x0801_8080, &[0, 8]),
     ];
     for (index, operations, accepted) in uses {
         for format in 0..16 {

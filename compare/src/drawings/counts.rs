@@ -2,6 +2,7 @@
 
 use super::areas::Areas;
 use crate::between;
+use crate::orders::Orders;
 use crate::pair::Pair;
 use crate::random_drawings::FUNCTIONS;
 use model::operations::Kind;
@@ -30,6 +31,7 @@ pub struct Counts {
     /// Lines and codes by their drawing mode.
     modes: [u64; 4],
     pub areas: Areas,
+    orders: Orders,
     pub positions: u64,
     pub changed: u64,
     pub stopped_at_once: u64,
@@ -46,11 +48,15 @@ impl Counts {
         let has_mode = matches!(fields.kind(), Some(Kind::Line | Kind::Codes));
         self.modes[fields.drawing_mode as usize] += u64::from(has_mode);
         self.areas.note_start(state);
+        self.orders.note(state);
     }
 
     /// What was never met.
     pub fn never_met(&self) -> Option<String> {
-        self.between.never_met().or_else(|| self.areas.never_met())
+        let never = self.between.never_met();
+        never
+            .or_else(|| self.areas.never_met())
+            .or_else(|| self.orders.never_met())
     }
 }
 
@@ -66,7 +72,7 @@ impl fmt::Display for Counts {
             "  lines and codes by drawing mode 00, 01, 10, 11: {:?}",
             self.modes
         )?;
-        writeln!(lines, "{}", self.areas)?;
+        writeln!(lines, "{}{}", self.areas, self.orders)?;
         write!(
             lines,
             "  {} loads into another coprocessor at random; {} drawings cut at every position, with {} such loads; {} of all in state 3",

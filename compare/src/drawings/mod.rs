@@ -18,8 +18,12 @@ use counts::{Counts, Loads};
 /// The most positions of a drawing that is cut at every one of them.
 const LONGEST_CUT: u32 = 64;
 
-/// The drawings from which on all that may be done between two runs, and every kind of area, must have been met.
+/// The drawings from which on all that may be done between two runs, every kind of area and every mix of orders must have been met.
 const MANY: u64 = 1_000;
+
+/// One in so many drawings uses four different maps, whose orders are mixed in all ways in turn.
+const OF_FOUR_MAPS: u64 = 4;
+const MIXES: u64 = 16;
 
 /// Compares a drawing in each step, of all functions in turn; what is done between their runs has random numbers of its own.
 pub fn compare(
@@ -31,8 +35,8 @@ pub fn compare(
     let count = steps.asked;
     let mut counts = Counts::default();
     let mut between = Between::new(random_between, others);
-    for (_, kind) in steps.zip((0..FUNCTIONS.len()).cycle()) {
-        let drawing = random_drawings::drawing(random, FUNCTIONS[kind]);
+    for (number, kind) in steps.zip((0..FUNCTIONS.len()).cycle()) {
+        let drawing = drawing(random, FUNCTIONS[kind], number);
         let whole = || one(random, &drawing, others, &mut between, &mut counts);
         let positions =
             panics::caught(whole).map_err(|difference| format!("{difference}\nin {drawing:?}"))?;
@@ -44,6 +48,17 @@ pub fn compare(
     match counts.never_met().filter(|_| count >= MANY) {
         Some(never) => Err(never),
         None => Ok(counts),
+    }
+}
+
+/// The drawing of a number.
+fn drawing(random: &mut Random, function: u32, number: u64) -> RandomDrawing {
+    match number % OF_FOUR_MAPS {
+        0 => {
+            let mix = number / OF_FOUR_MAPS % MIXES;
+            random_drawings::drawing_of_four_maps(random, function, mix as u32)
+        }
+        _ => random_drawings::drawing(random, function),
     }
 }
 

@@ -2,6 +2,7 @@
 
 use model::map::Map;
 use model::mixes;
+use model::pixels::Order;
 use model::reach::{self, Role};
 
 /// A map with its sizes worked out.
@@ -12,6 +13,8 @@ pub(super) struct Surface {
     pub(super) rows: u32,
     pixel_code: u32,
     ones: u32,
+    /// What turns a shift in Intel order into the map's own: 8 - size - shift is shift xor 8 - size.
+    turn: u32,
 }
 
 /// A pixel's byte and the place of its lowest bit there.
@@ -21,7 +24,7 @@ struct Place {
 }
 
 impl Surface {
-    /// The surface of a map whose format was accepted.
+    /// The surface of a map whose format was accepted, or of a mask map of which only the sides count.
     pub(super) fn of(role: Role, map: &Map) -> Surface {
         Surface {
             role,
@@ -30,6 +33,10 @@ impl Surface {
             rows: map.rows(),
             pixel_code: u32::from(map.pixel_code()),
             ones: mixes::ones(map.bits()),
+            turn: match map.order() {
+                Order::Intel => 0,
+                Order::Motorola => 8u32.saturating_sub(map.bits()),
+            },
         }
     }
 
@@ -50,7 +57,7 @@ impl Surface {
         let bit = (y * self.row_length + x) << self.pixel_code;
         Place {
             byte: self.base + (bit >> 3) as usize,
-            shift: bit & 7,
+            shift: bit & 7 ^ self.turn,
         }
     }
 

@@ -96,8 +96,8 @@ fn starts(registers: &Registers, fields: &Operations, size: u32) -> bool {
     let destination = registers.map(fields.destination);
     let source = registers.map(fields.source);
     let is_source = |field| matches!(field, operations::COLOUR | operations::SOURCE_MAP);
-    let fits = |map: &Map| map.format <= 3 && map.end() <= u64::from(size);
-    let is_bitmap = |map: &Map| map.format == 0 && fits(map);
+    let fits = |map: &Map| map.pixel_code() <= 3 && map.end() <= u64::from(size);
+    let is_bitmap = |map: &Map| map.pixel_code() == 0 && fits(map);
     let is_fill = fields.kind() == Some(Kind::Fill);
 
     is_source(fields.foreground_source)
@@ -109,7 +109,7 @@ fn starts(registers: &Registers, fields: &Operations, size: u32) -> bool {
         && registers.foreground_mix.max(registers.background_mix) <= LAST_MIX
         && fits(destination)
         && (!fields.uses_source() || operations::is_general_map(fields.source) && fits(source))
-        && (!fields.uses_source_as_colour() || source.format == destination.format)
+        && (!fields.uses_source_as_colour() || source.pixel_code() == destination.pixel_code())
         && (!fields.uses_pattern() || is_bitmap(registers.map(fields.pattern)))
         && (!fields.uses_mask() || is_bitmap(registers.mask_map()))
 }

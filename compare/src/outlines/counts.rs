@@ -4,6 +4,7 @@ use super::edges::Point;
 use super::shapes::{Means, Outline, MEANS};
 use super::station::Manner;
 use crate::report;
+use crate::writes::MOTOROLA;
 use std::fmt;
 
 const MEANS_NAMES: [&str; 4] = [
@@ -29,12 +30,21 @@ const MANNERS: [&str; 5] = [
     "in place",
 ];
 
+/// The orders of the outline's map and of the filled one.
+const ORDERS: [&str; 4] = [
+    "from Intel to Intel",
+    "from Motorola to Intel",
+    "from Intel to Motorola",
+    "from Motorola to Motorola",
+];
+
 /// What was met.
 #[derive(Default)]
 pub struct Counts {
     means: [u64; MEANS.len()],
     places: [u64; PLACES.len()],
     manners: [u64; MANNERS.len()],
+    orders: [u64; ORDERS.len()],
     pub edges: u64,
     /// Crossings in the map's rows, those of them left of the map, and those where a tie decides.
     pub crossings: u64,
@@ -66,8 +76,10 @@ impl Counts {
         self.edges += edges.len() as u64;
     }
 
-    /// Counts a fill by its manner.
-    pub fn note_fill(&mut self, manner: &Manner) {
+    /// Counts a fill by its manner, and by the order bits of the outline's map and of the filled one.
+    pub fn note_fill(&mut self, manner: &Manner, orders: [u32; 2]) {
+        let [outline, filled] = orders.map(|order| usize::from(order == MOTOROLA));
+        self.orders[outline + 2 * filled] += 1;
         self.manners[usize::from(manner.is_up)] += 1;
         self.manners[2] += u64::from(manner.mask.is_some());
         self.manners[3] += u64::from(manner.allowance < u32::MAX);
@@ -80,8 +92,8 @@ impl Counts {
 
     /// What was never met.
     pub fn never_met(&self) -> Option<String> {
-        let kinds = [&self.means[..], &self.places, &self.manners].concat();
-        let names = [&MEANS_NAMES[..], &PLACES, &MANNERS].concat();
+        let kinds = [&self.means[..], &self.places, &self.manners, &self.orders].concat();
+        let names = [&MEANS_NAMES[..], &PLACES, &MANNERS, &ORDERS].concat();
         let numbers = [self.left_of_the_map, self.ties, self.inside, self.near];
         let mut named = names.into_iter().zip(kinds);
         let kind = named.find(|(_, times)| *times == 0).map(|(name, _)| name);
@@ -106,6 +118,8 @@ impl fmt::Display for Counts {
             report::met("in the map", &PLACES, &self.places)
         )?;
         write!(lines, "{}", report::met("filled", &MANNERS, &self.manners))?;
+        let title = "by order";
+        write!(lines, "{}", report::met(title, &ORDERS, &self.orders))?;
         write!(
             lines,
             "\n  {} pixels, {} of them inside; {} within half a pixel of an edge, the others as plain geometry has them",

@@ -44,7 +44,7 @@ fn one(random: &mut Random, outline: &Outline, counts: &mut Counts) -> Result<()
     hold_against_geometry(&outline.edges(), &inside, counts)?;
 
     let manner = manner(random, outline.map);
-    counts.note_fill(&manner);
+    counts.note_fill(&manner, station.orders);
     let before = station.filled();
     station.fill(&manner)?;
     let expected = |(at, is_inside): (Point, &bool), old: u32| match is_inside {

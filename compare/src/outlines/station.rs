@@ -7,6 +7,7 @@ use crate::guarded::Guarded;
 use crate::random::Random;
 use crate::writes::{
     self, Point, Write, BITS_1, BOUNDARY, CODES, LINE, MIX_DESTINATION, MIX_SOURCE, MIX_XOR,
+    MOTOROLA,
 };
 use model::codes::DIRECTIONS;
 
@@ -55,14 +56,17 @@ pub struct Station {
     /// The first byte of the filled map, and the bits of its pixels.
     filled_at: usize,
     bits: usize,
+    /// The order bits of the outline's map and of the filled one.
+    pub orders: [u32; 2],
 }
 
 impl Station {
-    /// A station for maps of this size, of which the outline's is empty and the other has random pixels.
+    /// A station for maps of this size, each in any order, of which the outline's is empty and the other has random pixels.
     pub fn new(random: &mut Random, size: Point) -> Result<Station, String> {
         let pixels = (size.0 * size.1) as usize;
         let format = random.below(4);
         let bits = 1 << format;
+        let orders = [(); 2].map(|()| random.pick(&[0, MOTOROLA]));
         let filled_at = pixels.div_ceil(8);
         let mut memory = vec![0; filled_at];
         memory.extend((0..(pixels * bits).div_ceil(8)).map(|_| random.word() as u8));
@@ -72,13 +76,15 @@ impl Station {
             size,
             filled_at,
             bits,
+            orders,
         };
         match board::fresh(station.image.bytes_mut(), memory.len() as u32) {
             0 => {}
             refusal => return Err(format!("fresh {}: {refusal}", memory.len())),
         }
-        station.write(&writes::map(FILLED, filled_at as u32, size, format))?;
-        station.write(&writes::map(OUTLINE, 0, size, BITS_1))?;
+        let [outline, filled] = [BITS_1 | orders[0], format | orders[1]];
+        station.write(&writes::map(OUTLINE, 0, size, outline))?;
+        station.write(&writes::map(FILLED, filled_at as u32, size, filled))?;
         station.write(&[
             writes::no_compare(),
             writes::mixes(MIX_XOR, 0),
@@ -149,21 +155,28 @@ impl Station {
 
     /// The pixels of the outline's map, row after row.
     pub fn outline(&self) -> Vec<bool> {
-        let memory = self.memory.bytes();
-        let pixels = (self.size.0 * self.size.1) as usize;
-        (0..pixels)
-            .map(|bit| memory[bit / 8] >> (bit % 8) & 1 == 1)
-            .collect()
+        let pixels = self.pixels(0, 1, self.orders[0]);
+        pixels.map(|pixel| pixel == 1).collect()
     }
 
     /// The pixels of the filled map, row after row.
     pub fn filled(&self) -> Vec<u32> {
-        let memory = &self.memory.bytes()[self.filled_at..];
-        let pixels = (self.size.0 * self.size.1) as usize;
-        (0..pixels)
-            .map(|pixel| pixel * self.bits)
-            .map(|bit| u32::from(memory[bit / 8]) >> (bit % 8) & self.ones())
-            .collect()
+        let pixels = self.pixels(self.filled_at, self.bits, self.orders[1]);
+        pixels.collect()
+    }
+
+    /// The pixels of a map from a byte on, of so many bits and in the order of an order bit.
+    fn pixels(&self, first: usize, bits: usize, order: u32) -> impl Iterator<Item = u32> + '_ {
+        let memory = &self.memory.bytes()[first..];
+        let count = (self.size.0 * self.size.1) as usize;
+        let ones = (1 << bits) - 1;
+        (0..count).map(move |pixel| pixel * bits).map(move |bit| {
+            let shift = match order {
+                MOTOROLA => 8 - bits - bit % 8,
+                _ => bit % 8,
+            };
+            u32::from(memory[bit / 8]) >> shift & ones
+        })
     }
 
     /// All ones of a pixel of the filled map.

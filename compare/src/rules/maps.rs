@@ -2,7 +2,7 @@
 
 use super::{draws, from, of_record, Rule};
 use crate::random::Random;
-use crate::states::used_maps;
+use crate::writes::MOTOROLA;
 use model::operations::Operations;
 use model::{Coprocessor, Map};
 
@@ -39,16 +39,13 @@ pub fn rules() -> Vec<Rule> {
 
 /// Refusal 7; the map still lies in the memory.
 fn formats() -> Vec<Rule> {
+    let destination_alone = |fields: &Operations| {
+        let is_alone = !fields.uses_source_as_colour() || fields.source == fields.destination;
+        (is_alone && fields.pattern != fields.destination).then_some(fields.destination)
+    };
     vec![
-        of_record("order bit", draws, |random, state| {
-            let used = used_maps(state);
-            let map = used[random.below(used.len() as u32) as usize];
-            state.registers.maps[map].format |= 8;
-        }),
-        format("pixel code of the destination", 4..=7, |fields| {
-            let is_alone = !fields.uses_source_as_colour() || fields.source == fields.destination;
-            (is_alone && fields.pattern != fields.destination).then_some(fields.destination)
-        }),
+        format("pixel code of the destination", 4..=7, destination_alone),
+        format("pixel code with the order bit", 12..=15, destination_alone),
         format("pixel code of the source", 4..=7, |fields| {
             let is_alone = fields.uses_source() && !fields.uses_source_as_colour();
             (is_alone && fields.source != fields.destination).then_some(fields.source)
@@ -68,7 +65,7 @@ fn formats() -> Vec<Rule> {
     ]
 }
 
-/// A rule that another format breaks, in a map that the operations have where the rule can be broken by itself.
+/// A rule that another pixel code breaks, in a map that the operations have where the rule can be broken by itself; its order bit stays.
 fn format(
     name: &str,
     formats: std::ops::RangeInclusive<u8>,
@@ -82,11 +79,8 @@ fn format(
         formats
             .filter(|(map, format)| {
                 let old = state.registers.maps[*map];
-                let new = Map {
-                    format: *format,
-                    ..old
-                };
-                *format != old.format && new.end() <= u64::from(state.size)
+                let new = with_format(old, *format);
+                new.bits() != old.bits() && new.end() <= u64::from(state.size)
             })
             .collect()
     };
@@ -97,9 +91,19 @@ fn format(
         move |random, state| {
             let others = others(state);
             let (map, format) = others[random.below(others.len() as u32) as usize];
-            state.registers.maps[map].format = format;
+            let map = &mut state.registers.maps[map];
+            *map = with_format(*map, format);
         },
     )
+}
+
+/// The map with another pixel code; an order bit is kept, or set where the format has it.
+fn with_format(map: Map, format: u8) -> Map {
+    let order = map.format & MOTOROLA as u8;
+    Map {
+        format: format | order,
+        ..map
+    }
 }
 
 /// Puts a map where it ends beyond the memory: by one byte, by many, by so many that 32 bits go round, or by its sides.

@@ -1,5 +1,6 @@
 //! What sequences of calls met.
 
+use crate::orders::Orders;
 use crate::random_drawings::FUNCTIONS;
 use crate::report;
 use model::operations::Kind;
@@ -47,6 +48,7 @@ pub struct Counts {
     pixel_sizes: [u64; 4],
     drawing_modes: [u64; 4],
     mask_modes: [u64; 3],
+    orders: Orders,
 }
 
 impl Counts {
@@ -71,23 +73,23 @@ impl Counts {
         let is_started = (offset..offset + length).contains(&starting_byte);
         let function = FUNCTIONS.iter().position(|one| *one == fields.function);
         if let Some(function) = function.filter(|_| is_started) {
-            let format = state.registers.map(fields.destination).format;
+            let code = state.registers.map(fields.destination).pixel_code();
             self.functions[function] += 1;
-            self.pixel_sizes[usize::from(format)] += 1;
+            self.pixel_sizes[usize::from(code)] += 1;
             self.drawing_modes[fields.drawing_mode as usize] += 1;
             self.mask_modes[fields.mask as usize] += 1;
+            self.orders.note(state);
         }
     }
 
-    /// A number that some call can answer with and none did.
+    /// A number that some call can answer with and none did, or a mix of orders.
     pub fn never_met(&self) -> Option<String> {
-        CALLS
-            .iter()
-            .zip(&self.calls)
-            .find_map(|((name, numbers), times)| {
-                let never = numbers.iter().find(|number| times[**number] == 0)?;
-                Some(format!("none of the {name} answered with {never}"))
-            })
+        let mut calls = CALLS.iter().zip(&self.calls);
+        let never = calls.find_map(|((name, numbers), times)| {
+            let never = numbers.iter().find(|number| times[**number] == 0)?;
+            Some(format!("none of the {name} answered with {never}"))
+        });
+        never.or_else(|| self.orders.never_met())
     }
 }
 
@@ -125,6 +127,6 @@ impl fmt::Display for Counts {
             let title = format!("starts by {field}");
             write!(lines, "{}", report::met(&title, names, times))?;
         }
-        Ok(())
+        write!(lines, "{}", self.orders)
     }
 }

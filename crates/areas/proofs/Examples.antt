@@ -10,7 +10,7 @@ use Rattle.numbers.specs.Circles.{back, circle, forth, residue}
 use Rattle.numbers.specs.Fields.{field, withField}
 use Rattle.mixes.specs.Conditions.{conditionHolds, holdsOf}
 use Rattle.mixes.specs.Mixes.{depthOf, gathered, logical, merged, mixed, tableBit}
-use Rattle.pixels.specs.Maps.{bitsOf, neededOf, placeOf, shiftOf, startOf}
+use Rattle.pixels.specs.Maps.{Apart, bitsOf, neededOf, placeOf, shiftOf, startOf}
 use Rattle.pixels.specs.Pixels.{byteAt, pixelAt, withPixel}
 use Rattle.pixels.specs.declared.Map.{Map}
 use Rattle.parts.specs.Drawings.{insideOf, withInside}
@@ -36,11 +36,11 @@ use Rattle.position.specs.Drawn.{crossed, drawn, drawnBy, inkOf, insideAt, isFo
 use Rattle.position.specs.Fates.{destinationPixel, fateOf, isCompared, onZero}
 use Rattle.runs.specs.Runs.{after, begun, positioned, stepped}
 use Rattle.coprocessor.specs.Fresh.{sizeHolds}
-use Rattle.coprocessor.specs.Runs.{penOf, ranOf, runMemory, runRefusal, setupOf}
+use Rattle.coprocessor.specs.Runs.{penOf, positionAt, ranOf, runMemory, runRefusal, setupOf}
 use Rattle.coprocessor.specs.Valid.{goesOn, mapsReduced, reducedOf, startRefusalOf, validOf}
 use Rattle.coprocessor.specs.declared.Coprocessor.{Coprocessor}
 use Rattle.areas.specs.Crossings.{below, crosses, crossesAt, crossings, penAfter, samePlace}
-use Rattle.areas.specs.Fills.{Filling, positionAt, Apart, crossingsUpTo, foregroundAfter, isOdd}
+use Rattle.areas.specs.Fills.{Filling, crossingsUpTo, foregroundAfter, isOdd}
 use Rattle.areas.specs.Outlines.{Strokes, none, more, atStart, crossingsOf, outlined}
 
 -- two maps of eight by eight pixels, one behind the other: the outline's and the picture's

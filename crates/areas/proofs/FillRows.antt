@@ -5,14 +5,12 @@ use Prim.Native.Nat.{ℕ, zero, suc, _+_, _≤_, _<_}
 use native.Mathlib.Numerals.{add-one}
 use native.Mathlib.Omega.{arith}
 use lib.Dec.{eqb}
-use borrow.Author.Tests.{lt-ltb, le-ltb}
 use Rattle.numbers.specs.Choose.{choose}
 use Rattle.numbers.specs.Circles.{forth}
-use Rattle.numbers.specs.Fields.{field}
-use Rattle.numbers.proofs.Choices.{choose-true, choose-false}
+use Rattle.numbers.proofs.Choices.{choose-true}
 use Rattle.pixels.specs.declared.Map.{Map}
-use Rattle.pixels.specs.Maps.{bitsOf, placeOf, shiftOf}
-use Rattle.pixels.specs.Pixels.{byteAt, pixelAt}
+use Rattle.pixels.specs.Maps.{Apart}
+use Rattle.pixels.specs.Pixels.{pixelAt}
 use Rattle.parts.specs.declared.shapes.Point.{Point}
 use Rattle.parts.specs.declared.drawing.Drawing.{Drawing}
 use Rattle.parts.specs.declared.drawing.Drawing.the-variants.{Block}
@@ -23,13 +21,14 @@ use Rattle.moves.specs.declared.Turn.the-variants.{Forth, Back}
 use Rattle.places.specs.declared.Setup.{Setup}
 use Rattle.moves.specs.declared.Pen.{Pen}
 use Rattle.moves.specs.Turns.{opposite, turnedBy, pointStepped}
-use Rattle.moves.specs.Moves.{penStepped, penWith, columnPassed, rowPoint, rowPassed, blockMoved, movedBy, moved}
+use Rattle.moves.specs.Moves.{penStepped, penWith, columnPassed, rowPoint, rowPassed}
+use Rattle.moves.proofs.BlockLaws.{to-column, to-row}
 use Rattle.moves.proofs.TurnLaws.{forth-add, forth-lt, turned-none, turned-return}
 use Rattle.position.specs.Drawn.{isOne, insideAt, crossed, isForeground}
 use Rattle.runs.specs.Runs.{Run, positioned, after}
 use Rattle.runs.proofs.AfterLaws.{stepped-on}
-use Rattle.runs.proofs.RunLaws.{bytes-after}
-use Rattle.areas.specs.Fills.{isOdd, Apart, onesFrom}
+use Rattle.runs.proofs.RunLaws.{pixels-after}
+use Rattle.areas.specs.Fills.{isOdd, onesFrom}
 use Rattle.areas.proofs.Parities.{odd-turned}
 
 -- the pattern's map
@@ -66,25 +65,9 @@ module _ (s : Setup) (f : Fills s) where
   -- the pixels of the pattern stay
   pub pattern-after : (n : ℕ) (t : Run) (x y : ℕ) → x ≤ ground s .width → y ≤ ground s .height
       → pixelAt (after s n t .memory) (ground s) x y ≡ pixelAt (t .memory) (ground s) x y
-  unfolding byteAt pixelAt Apart
-  pattern-after n t x y h v =
-      ap (field (shiftOf (ground s) x y) (bitsOf (ground s .format)))
-      (bytes-after s (placeOf (ground s) x y) (λ x' y' h' v'. f .apart x y x' y' h v h' v') n t)
+  pattern-after = pixels-after s (ground s) (f .apart)
 
-  -- ---- the move to the next column, and past the row's end
-
-  module _ (pen : Pen) (column row : ℕ) (inside : Bool) (e : pen .drawing ≡ Block inside column row) where
-    to-column : column < s .travel .figure .dimensions .x → moved (s .travel) pen ≡ columnPassed (s .travel) (Block inside (column + 1) row) pen
-    unfolding moved movedBy blockMoved
-    to-column less = ap (λ (d : Drawing). movedBy (s .travel) d pen) e ∙ choose-true _ _ (lt-ltb column (s .travel .figure .dimensions .x) less)
-
-    to-row : s .travel .figure .dimensions .x ≤ column → row < s .travel .figure .dimensions .y → moved (s .travel) pen
-        ≡ rowPassed (s .travel) (Block false 0 (row + 1)) pen
-    unfolding moved movedBy blockMoved
-    to-row last another =
-        ap (λ (d : Drawing). movedBy (s .travel) d pen) e
-        ∙ choose-false _ _ (le-ltb column (s .travel .figure .dimensions .x) last)
-        ∙ ap (λ (d : Drawing). rowPassed (s .travel) d pen) (choose-true _ _ (lt-ltb row (s .travel .figure .dimensions .y) another))
+  -- ---- the pattern pointer at the next column, and past the row's end
 
   column-pattern : (d : Drawing) (pen : Pen)
       → columnPassed (s .travel) d pen .pointers .pattern
@@ -152,7 +135,7 @@ module _ (s : Setup) (f : Fills s) (t : Run) (row : ℕ) (start : t .pen .drawin
   next-column : (n : ℕ) → n < s .travel .figure .dimensions .x → AtColumn s t row n (after s n t) → AtColumn s t row (suc n) (positioned s (after s n t))
   unfolding positioned crossed penWith columnPassed penStepped
   next-column n less at =
-      let to = to-column s f (here n) n row (isOdd (ones s t (suc n))) (crossed-at n at) less in
+      let to = to-column (s .travel) (here n) n row (isOdd (ones s t (suc n))) (crossed-at n at) less in
       let pattern = ap (λ (p : Pen). p .pointers .pattern) to ∙ column-pattern s f (Block (isOdd (ones s t (suc n))) (n + 1) row) (here n) in
       record {
         drawing = ap (λ (p : Pen). p .drawing) to ∙ ap (λ (k : ℕ). Block (isOdd (ones s t (suc n))) k row) (add-one n);
@@ -188,7 +171,7 @@ module _ (s : Setup) (f : Fills s) (t : Run) (row : ℕ) (start : t .pen .drawin
   row-after another =
       let last : ℕ = s .travel .figure .dimensions .x in
       let at = at-column last (omega arith) in
-      let to = to-row s f (here last) last row (isOdd (ones s t (suc last))) (crossed-at last at) (omega arith) another in
+      let to = to-row (s .travel) (here last) last row (isOdd (ones s t (suc last))) (crossed-at last at) (omega arith) another in
       let pattern = ap (λ (p : Pen). p .pointers .pattern) to ∙ row-pattern s f (Block false 0 (row + 1)) (here last) in
       let returned : turnedBy Back last (ground s .width) (after s last t .pen .pointers .pattern .x) ≡ t .pen .pointers .pattern .x =
       ap (turnedBy Back last (ground s .width)) (at .x)

@@ -6,6 +6,7 @@ use mathlib.Core.List.{List}
 use Prim.Native.Nat.{ℕ, suc, _+_, _/_, _%_, _≤_, _<_}
 use borrow.Author.Tests.{eq-eqb, eqb-true}
 use Rattle.numbers.proofs.Choices.{asked, and-left, and-right}
+use Rattle.pixels.specs.Maps.{Apart}
 use Rattle.parts.specs.declared.drawing.Drawing.the-variants.{Block}
 use Rattle.parts.specs.Drawings.{unfinished}
 use Rattle.rules.specs.Operations.{functionOf, destinationField, patternField, octantOf, isFill, usesPattern}
@@ -21,7 +22,7 @@ use Rattle.coprocessor.specs.declared.Coprocessor.{Coprocessor}
 use Rattle.coprocessor.specs.Valid.{startRefusalOf}
 use Rattle.coprocessor.specs.Runs.{setupOf, penOf, ranOf}
 use Rattle.coprocessor.proofs.SafeLaws.{Going, valid-going}
-use Rattle.areas.specs.Fills.{isOdd, Apart, Row, foregroundAfter, onesFrom}
+use Rattle.areas.specs.Fills.{isOdd, Row, foregroundAfter, onesFrom}
 use Rattle.areas.proofs.FillRows.{Fills, foreground-at, row-after}
 
 -- ---- what the start rules say of a fill

@@ -16,10 +16,10 @@ use Rattle.moves.specs.declared.Turn.the-variants.{Forth}
 use Rattle.moves.specs.Decoded.{signOf, courseOf, travelOf}
 use Rattle.runs.specs.Runs.{begun}
 use Rattle.coprocessor.specs.declared.Coprocessor.{Coprocessor}
-use Rattle.coprocessor.specs.Runs.{setupOf, penOf, ranOf}
+use Rattle.coprocessor.specs.Runs.{setupOf, penOf, ranOf, positionAt}
 use Rattle.coprocessor.proofs.SafeLaws.{Going, valid-going}
 use Rattle.areas.specs.Outlines.{Strokes, outlined, crossingsOf}
-use Rattle.areas.specs.Fills.{isOdd, foregroundAfter, onesFrom, Filling, positionAt, crossingsUpTo}
+use Rattle.areas.specs.Fills.{isOdd, foregroundAfter, onesFrom, Filling, crossingsUpTo}
 use Rattle.areas.proofs.Parities.{odd-same, odd-count}
 use Rattle.areas.proofs.FillRows.{Fills}
 use Rattle.areas.proofs.FillColumns.{foreground-there}

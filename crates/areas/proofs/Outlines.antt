@@ -22,10 +22,10 @@ use Rattle.places.specs.Decoded.{edgeOf, flowOf, brushOf}
 use Rattle.runs.specs.Runs.{begun}
 use Rattle.runs.proofs.RunLaws.{length-after}
 use Rattle.coprocessor.specs.declared.Coprocessor.{Coprocessor}
-use Rattle.coprocessor.specs.Runs.{setupOf, penOf, ranOf, runRefusal, runMemory}
+use Rattle.coprocessor.specs.Runs.{setupOf, penOf, ranOf, wholeOf, runRefusal, runMemory}
 use Rattle.coprocessor.proofs.SafeLaws.{valid-safe}
 use Rattle.areas.specs.Crossings.{crossings}
-use Rattle.areas.specs.Outlines.{Stroke, Strokes, none, more, wholeOf, outlined, crossingsOf}
+use Rattle.areas.specs.Outlines.{Stroke, Strokes, none, more, outlined, crossingsOf}
 use Rattle.areas.proofs.DrawnByRows.{writes, bounding, destination-on}
 use Rattle.areas.proofs.Toggles.{Toggles}
 use Rattle.areas.proofs.Strokes.{toggled-after}

@@ -17,15 +17,16 @@ use Rattle.pixels.specs.Maps.{bitsOf, placeOf}
 use Rattle.pixels.specs.Pixels.{pixelAt, withPixel}
 use Rattle.pixels.proofs.Pixels.{pixel-lt, get-put-same, get-put-other}
 use Rattle.mixes.specs.Mixes.{tableBit, logical, merged, mixed}
-use Rattle.mixes.specs.Conditions.{holdsOf, conditionHolds}
 use Rattle.mixes.proofs.Binary.{last-cases}
 use Rattle.parts.specs.declared.shapes.Ink.{Ink}
 use Rattle.moves.specs.declared.Pen.{Pen}
 use Rattle.places.specs.declared.Setup.{Setup}
-use Rattle.places.specs.Places.{isWithin, columnOf, placeX, onMap, inMask, isMove, isNulled}
+use Rattle.places.specs.Places.{isWithin, columnOf, placeX, onMap, isMove, isNulled}
 use Rattle.position.specs.declared.Fate.the-variants.{Moved, Nulled, OutsideMap, Painted}
-use Rattle.position.specs.Fates.{destinationPixel, onZero, isCompared, fateOf}
+use Rattle.position.specs.Fates.{destinationPixel, fateOf}
 use Rattle.position.specs.Drawn.{isForeground, inkOf, picked, mixedPixel, drawnBy, drawn}
+use Rattle.places.proofs.Columns.{within-place}
+use Rattle.position.proofs.Plain.{unbounded, unmasked, never, foreground, foreground-ink}
 use Rattle.position.proofs.Writing.{on-map}
 use Rattle.areas.specs.Crossings.{samePlace}
 use Rattle.areas.proofs.Rows.{same-self, same-true}
@@ -58,12 +59,6 @@ xor-one m c d plane colour =
     (λ (odd : d % 2 ≡ 1). let next : (d + 1) % 2 ≡ 0 = omega arith in rw (plane, colour, odd, next))
     (last-cases d)
 
--- a place within is its own row
-on-row : (last : ℕ) (z : ℤ) → isWithin last z ≡ true → z ≡ pos (columnOf z)
-unfolding isWithin columnOf
-on-row last (pos n) e = refl
-on-row last (negsuc n) e = absurd (false≢true e)
-
 -- no place is left of column 0
 placed : (z : ℤ) → choose (ltZ z (pos 0)) (pos 0) z ≡ pos (columnOf z)
 unfolding columnOf
@@ -75,17 +70,15 @@ module _ (s : Setup) (t : Toggles s) (memory : List ℕ) (pen : Pen) where
   unfolding placeX
   place = rw (t .edge) (placed (pen .pointers .destination .x))
 
-  foreground : isForeground s memory pen ≡ true
-  unfolding isForeground
-  foreground = choose-false _ _ (t .pattern) ∙ choose-false _ _ (t .derived)
+  front : isForeground s memory pen ≡ true
+  front = foreground s memory pen (t .pattern) (t .derived)
 
   ink : inkOf s memory pen ≡ s .brush .colours .foreground
-  unfolding inkOf
-  ink = choose-true _ _ foreground
+  ink = foreground-ink s memory pen front
 
   colour-picked : picked s memory pen ≡ s .brush .colours .foreground .colour
   unfolding picked
-  colour-picked = choose-false _ _ (choose-true _ _ foreground ∙ t .source) ∙ ap (λ (i : Ink). i .colour) ink
+  colour-picked = choose-false _ _ (choose-true _ _ front ∙ t .source) ∙ ap (λ (i : Ink). i .colour) ink
 
   mixed-one : mixedPixel s memory pen ≡ (destinationPixel (s .brush) memory pen + 1) % 2
   unfolding mixedPixel
@@ -98,19 +91,6 @@ module _ (s : Setup) (t : Toggles s) (memory : List ℕ) (pen : Pen) where
 
   -- ---- what keeps a position back
 
-  -- without a mask, none
-  unbounded : inMask (s .brush) pen ≡ true
-  unfolding inMask
-  unbounded = rw (t .mask)
-
-  unmasked : onZero (s .brush) memory pen ≡ false
-  unfolding onZero
-  unmasked = rw (t .mask)
-
-  never : isCompared (s .brush) memory pen ≡ false
-  unfolding isCompared conditionHolds holdsOf
-  never = rw (t .condition)
-
   abbrev moves : Bool
   moves = isMove (s .travel) (pen .drawing)
 
@@ -121,7 +101,8 @@ module _ (s : Setup) (t : Toggles s) (memory : List ℕ) (pen : Pen) where
 
   drawn-turned : drawn s memory pen ≡ choose (moves || isNulled s pen || not (onMap (s .brush) pen)) memory turned
   unfolding fateOf drawnBy drawn
-  drawn-turned = rw (unbounded, unmasked, never) (by moves (isNulled s pen) (onMap (s .brush) pen))
+  drawn-turned =
+      rw (unbounded s memory pen (t .mask), unmasked s memory pen (t .mask), never s memory pen (t .condition)) (by moves (isNulled s pen) (onMap (s .brush) pen))
     where
       by : (back nulled on : Bool)
           → drawnBy (choose back Moved (choose nulled Nulled (choose (not on) OutsideMap Painted))) s memory pen
@@ -184,7 +165,7 @@ module _ (s : Setup) (t : Toggles s) (memory : List ℕ) (pen : Pen) where
         get-put-other memory (s .brush .destination) _ _ (mixedPixel s memory pen) x y (on-map (s .brush) pen on .0) across
         (λ both.
         let inside = and-right (isWithin (s .brush .destination .width) (placeX (s .brush) pen)) _ on in
-        let row = on-row (s .brush .destination .height) (pen .pointers .destination .y) inside ∙ ap pos (both .1) in
+        let row = within-place (s .brush .destination .height) (pen .pointers .destination .y) inside ∙ ap pos (both .1) in
         false≢true
         (sym e ∙ and-both _ _ (eq-eqb _ x (ap columnOf (sym place) ∙ both .0)) (ap (λ (z : ℤ). samePlace z (pos y)) row ∙ same-self (pos y))))
 

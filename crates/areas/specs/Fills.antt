@@ -1,5 +1,5 @@
 -- An area fill: which positions are foreground.
-use Prim.Native.Nat.{ℕ, zero, suc, _+_, _*_, _/_, _%_, _≤_}
+use Prim.Native.Nat.{ℕ, zero, suc, _+_, _/_, _%_}
 use mathlib.Core.Path.{_≡_}
 use mathlib.Core.Bool.{Bool, true, false}
 use mathlib.Core.List.{List}
@@ -7,7 +7,7 @@ use lib.Dec.{eqb}
 use Rattle.numbers.specs.Choose.{choose}
 use Rattle.numbers.specs.Circles.{forth}
 use Rattle.pixels.specs.declared.Map.{Map}
-use Rattle.pixels.specs.Maps.{placeOf}
+use Rattle.pixels.specs.Maps.{Apart}
 use Rattle.pixels.specs.Pixels.{pixelAt}
 use Rattle.parts.specs.declared.shapes.Point.{Point}
 use Rattle.parts.specs.declared.drawing.Drawing.the-variants.{Block}
@@ -22,10 +22,6 @@ use Rattle.areas.specs.Outlines.{crossingsOf}
 -- 003, Area Fill: an odd number
 unfoldable pub isOdd : ℕ → Bool
 isOdd n = eqb (n % 2) 1
-
--- 02, 102: no byte belongs to both maps
-unfoldable pub Apart : Map → Map → Type 0
-Apart a b = (x y x' y' : ℕ) → x ≤ a .width → y ≤ a .height → x' ≤ b .width → y' ≤ b .height → placeOf a x y ≡ placeOf b x' y' → ⊥
 
 -- 02, 102: a fill, at the first position of a row, whose pattern map shares no byte with its destination map
 pub record Row (row : ℕ) (c : Coprocessor) : Type 0 where
@@ -52,10 +48,6 @@ pub record Filling (map : Map) (c : Coprocessor) : Type 0 where
   pub corner : c .registers .pointers .pattern ≡ record { x = 0; y = 0 }
   pub down : octantOf (c .registers .figure .operations) / 2 % 2 ≡ 0
   pub apart : Apart map (mapAt (c .maps) (destinationField (c .registers .figure .operations)))
-
--- 01, The functions, PxBlt: the position at this column and row of a block
-abbrev pub positionAt : Coprocessor → ℕ → ℕ → ℕ
-positionAt c column row = row * (c .registers .figure .dimensions .x + 1) + column
 
 -- 02, 102: the crossings of an outline at this column of a row and left of it
 unfoldable pub crossingsUpTo : List Coprocessor → ℕ → ℕ → ℕ

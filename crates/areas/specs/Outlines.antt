@@ -9,10 +9,9 @@ use Rattle.parts.specs.declared.drawing.Drawing.{Drawing}
 use Rattle.parts.specs.declared.drawing.Drawing.the-variants.{Nothing, Line, Codes, Block}
 use Rattle.rules.specs.Operations.{foregroundSource, functionOf, destinationField, patternField, maskMode, drawingMode}
 use Rattle.rules.specs.Maps.{mapAt}
-use Rattle.rules.specs.Totals.{totalOf}
 use Rattle.coprocessor.specs.declared.Coprocessor.{Coprocessor}
 use Rattle.coprocessor.specs.Valid.{validOf}
-use Rattle.coprocessor.specs.Runs.{setupOf, penOf, runMemory}
+use Rattle.coprocessor.specs.Runs.{setupOf, penOf, wholeOf, runMemory}
 use Rattle.areas.specs.Crossings.{crossings}
 
 -- 01, Registers: a line or codes at their start; codes whose first is 00 have ended there
@@ -43,10 +42,6 @@ pub record Stroke (map : Map) (size : ℕ) (c : Coprocessor) : Type 0 where
 pub data Strokes (map : Map) (size : ℕ) : List Coprocessor → Type 0 where
   none : Strokes map size []
   more : {c : Coprocessor} {cs : List Coprocessor} → Stroke map size c → Strokes map size cs → Strokes map size (c ∷ cs)
-
--- 01, The functions: all positions of a drawing
-abbrev pub wholeOf : Coprocessor → ℕ
-wholeOf c = totalOf (c .registers .figure) (c .drawing)
 
 -- 02, 102: the memory after each was run to its end, the first first
 unfoldable pub outlined : List Coprocessor → List ℕ → List ℕ

@@ -48,10 +48,10 @@ use Rattle.cases.specs.Calls.{Played, answers, played, same, written, ze
 use Rattle.cases.specs.Cases.{codes, inked, mapped, rows}
 use Rattle.cases.specs.Mistakes.{boundary, boundaryCodes, boundaryDown, boundaryLeft, boundaryLevel, boundaryUp, codeZero, cutBoundary, cutFill}
 use Rattle.cases.specs.Mistakes.{cutLine, destinationInverted, eachCodeNulled, earlierCodes, errorReduced, fill, fillRefused, filledByRows}
-use Rattle.cases.specs.Mistakes.{filledInPlace, firstCodeStops, insideAtStart, lowestNumber, maskBoundary, mistakes, noImage, notTiled}
+use Rattle.cases.specs.Mistakes.{filledInPlace, firstCodeStops, insideAtStart, lowestNumber, maskBoundary, mistakes, noImage, notTiled, orderTaken}
 use Rattle.cases.specs.Mistakes.{onePosition, patternAlong, pointersTurned, risenAtStart, row, rowReturned, sizes, sourceForth, stillCode}
 use Rattle.cases.specs.Mistakes.{unlistedByte}
-use Rattle.cases.specs.Examples.{compared, compass, conditions, cornered, corners, eachEndNulled, examples, maskPixels, maskedConditions, towards}
+use Rattle.cases.specs.Examples.{compared, compass, conditions, cornered, corners, eachEndNulled, examples, maskPixels, maskedConditions, ordered, orders, towards}
 
 pub avoided : Played mistakes × Played examples
 unfolding numberOf byteOf partOf covers latchedBytes latched forth back residue circle field withField bitsOf startOf placeOf shiftOf neededOf byteAt
@@ -66,12 +66,12 @@ unfolding numberOf byteOf partOf covers latchedBytes latched forth back residue 
     pointersReduced reducedOf goesOn validOf stored startsBy started startedRefusal writeRefusal settledBy writeAnswer same zeros written
     answers played Played mapped inked rows codes stillCode row earlierCodes notTiled eachCodeNulled sourceForth patternAlong
     destinationInverted rowReturned errorReduced onePosition boundary boundaryDown boundaryUp boundaryLevel boundaryCodes boundaryLeft fill
-    filledByRows filledInPlace cutFill cutBoundary insideAtStart risenAtStart fillRefused lowestNumber unlistedByte codeZero maskBoundary
+    filledByRows filledInPlace cutFill cutBoundary insideAtStart risenAtStart fillRefused lowestNumber unlistedByte codeZero maskBoundary orderTaken
     firstCodeStops pointersTurned sizes noImage cutLine mistakes isOneBit countersOf drawingOf laid counterFields headFields mapFields
     mapsFields at mapFrom inkFrom pointFrom spotFrom mapsFrom termsFrom countersFrom bankOf fieldsOf imageOf loaded zeroCounters remains loads
     saves saveRefusal saved loadAnswer valueAt readRefusal readAnswer le insideOf withInside isFill modeOf fillHolds edgeOf rises placeX
     onBoundary isOne insideAt crossed takenOnto mapLatched termsLatched inkLatched compareLatched pointLatched spotLatched coloursLatched
     figureLatched pointersLatched registersLatched coloursReduced figureReduced registersReduced selected others freshRegisters withMoved
     pointersStarted travelOf brushOf depthOf mapValues otherValues valuesOf laidAt readFrom registerFields coloursFrom figureFrom pointersFrom
-    registersFrom compared conditions maskedConditions maskPixels towards compass cornered corners eachEndNulled examples
-avoided = ((refl, (refl, (refl, (refl, (refl, (refl, (refl, (refl, (refl, (refl, (refl, (refl, (refl, (refl, (refl, (refl, (refl, (refl, (refl, (refl, (refl, (refl, (refl, (refl, (refl, (refl, (refl, (refl, (refl, (refl, (refl, tt))))))))))))))))))))))))))))))), (refl, (refl, (refl, (refl, (refl, (refl, (refl, (refl, (refl, (refl, (refl, (refl, (refl, (refl, (refl, (refl, (refl, tt))))))))))))))))))
+    registersFrom compared conditions maskedConditions maskPixels ordered orders towards compass cornered corners eachEndNulled examples
+avoided = ((refl, (refl, (refl, (refl, (refl, (refl, (refl, (refl, (refl, (refl, (refl, (refl, (refl, (refl, (refl, (refl, (refl, (refl, (refl, (refl, (refl, (refl, (refl, (refl, (refl, (refl, (refl, (refl, (refl, (refl, (refl, (refl, tt)))))))))))))))))))))))))))))))), (refl, (refl, (refl, (refl, (refl, (refl, (refl, (refl, (refl, (refl, (refl, (refl, (refl, (refl, (refl, (refl, (refl, (refl, (refl, tt))))))))))))))))))))

@@ -1,4 +1,4 @@
--- Worked examples: each compare condition, the mask's pixels, each direction, each corner of a block, last null; the bytes are worked by hand from 01 and 003.
+-- Worked examples: each compare condition, the mask's pixels, the two orders, each direction, each corner of a block, last null; the bytes are worked by hand from 01 and 003.
 use Prim.Native.Nat.{ℕ, _+_, _*_}
 use mathlib.Core.List.{List, [], _∷_, _++_}
 use Rattle.cases.specs.Calls.{Act, Play, zeros, write, read, run, memory}
@@ -60,6 +60,30 @@ maskPixels =
           ∷ memory (0 ∷ 0 ∷ 0xAA ∷ 0 ∷ 0 ∷ 0xAA ∷ 0 ∷ 0 ∷ 0x06 ∷ [])
           ∷ []);
     }
+
+-- ---- orders
+
+-- a copy of four pixels of 2 bits through a pattern and a mask, each map of four pixels in one byte of its own and in this format
+unfoldable pub ordered : (source destination pattern mask : ℕ) (before after : List ℕ) → Play
+ordered source destination pattern mask before after =
+    record {
+      bytes = before;
+      calls =
+          mapped 2 0 3 0 source
+          ++ mapped 1 1 3 0 destination
+          ++ mapped 3 2 3 0 pattern
+          ++ mapped 0 3 3 0 mask
+          ++ inked 3 0xFF 0
+          ++ (write 0x60 2 3 ∷ write 0x7C 4 0x28213080 ∷ run 9 4 ∷ memory after ∷ []);
+    }
+
+-- 003, Memory map; 02, 101: the pixels 0, 1, 2, 3 over four 3s, where the pattern 1, 1, 0, 1 puts 0 for the third and the mask 0, 1, 1, 1 keeps the first:
+-- 3, 1, 0, 3, from Intel to Motorola order and back, with a pattern in the one and a mask in the other
+unfoldable pub orders : List Play
+orders =
+    ordered 1 9 8 0 (0xE4 ∷ 0xFF ∷ 0xD0 ∷ 0x0E ∷ []) (0xE4 ∷ 0xD3 ∷ 0xD0 ∷ 0x0E ∷ [])
+    ∷ ordered 9 1 0 8 (0x1B ∷ 0xFF ∷ 0x0B ∷ 0x70 ∷ []) (0x1B ∷ 0xC7 ∷ 0x0B ∷ 0x70 ∷ [])
+    ∷ []
 
 -- ---- directions and corners
 
@@ -129,4 +153,4 @@ eachEndNulled =
 
 -- all of them
 unfoldable pub examples : List Play
-examples = conditions ++ maskedConditions ++ (maskPixels ∷ compass ∷ eachEndNulled ∷ corners)
+examples = conditions ++ maskedConditions ++ orders ++ (maskPixels ∷ compass ∷ eachEndNulled ∷ corners)

@@ -250,6 +250,20 @@ unfoldable pub maskBoundary : Play
 maskBoundary =
     record { bytes = zeros 1; calls = mapped 0 0 0 0 3 ++ row 0 3 0xAA ++ (refused 0x7C 4 0x05018080 7 ∷ write 0x7C 4 0x05018040 ∷ run 9 1 ∷ []) }
 
+-- 02, 101: pixel code 4 is refused, with the order bit and without it; that bit alone is not, and its image loads
+unfoldable pub orderTaken : Play
+orderTaken =
+    record {
+      bytes = zeros 1;
+      calls =
+          mapped 1 0 0 0 0x0C
+          ++ inked 3 0xFF 0xAA
+          ++ (refused 0x7C 4 0x05018000 7
+          ∷ write 0x1C 1 4 ∷ refused 0x7C 4 0x05018000 7
+          ∷ write 0x1C 1 0x0B ∷ write 0x7C 4 0x05018000 ∷ carried 1 ∷ run 9 1 ∷ memory (0xAA ∷ [])
+          ∷ []);
+    }
+
 -- 01, Registers: a first code 00 ends at once with no position, flagged as stopped
 unfoldable pub firstCodeStops : Play
 firstCodeStops = record { bytes = zeros 1; calls = row 0 3 0xAA ++ (write 0x7C 4 0x04018000 ∷ write 0x2F 1 0 ∷ state 2 ∷ run 9 0 ∷ memory (0 ∷ []) ∷ []) }
@@ -321,6 +335,7 @@ mistakes =
     ∷ unlistedByte
     ∷ codeZero
     ∷ maskBoundary
+    ∷ orderTaken
     ∷ firstCodeStops
     ∷ pointersTurned
     ∷ sizes

@@ -1,5 +1,5 @@
 -- A run: the drawing in hand goes on by an allowance of positions.
-use Prim.Native.Nat.{ℕ}
+use Prim.Native.Nat.{ℕ, _+_, _*_}
 use mathlib.Core.Bool.{not}
 use mathlib.Core.List.{List}
 use lib.ListN.{length}
@@ -9,6 +9,7 @@ use Rattle.parts.specs.declared.refusals.Refusal.{Refusal}
 use Rattle.parts.specs.declared.refusals.Refusal.the-variants.{Accepted, Size, Image}
 use Rattle.parts.specs.Refusals.{isAccepted}
 use Rattle.parts.specs.Moved.{withMoved}
+use Rattle.rules.specs.Totals.{totalOf}
 use Rattle.moves.specs.declared.Pen.{Pen}
 use Rattle.moves.specs.Decoded.{travelOf}
 use Rattle.places.specs.declared.Setup.{Setup}
@@ -43,6 +44,14 @@ withPen c pen =
 -- 01, The functions: a run of n positions, or as many as there are
 unfoldable pub ranOf : Coprocessor → List ℕ → ℕ → Run
 ranOf c memory n = after (setupOf c) n (begun (penOf c) memory)
+
+-- 01, The functions: all positions of a drawing
+abbrev pub wholeOf : Coprocessor → ℕ
+wholeOf c = totalOf (c .registers .figure) (c .drawing)
+
+-- 01, The functions, PxBlt: how many positions of a block come before the one at this column and row
+abbrev pub positionAt : Coprocessor → ℕ → ℕ → ℕ
+positionAt c column row = row * (c .registers .figure .dimensions .x + 1) + column
 
 -- 01, Numbers a call answers with: 9 for another length than the state's, then 10
 unfoldable pub runRefusal : Coprocessor → List ℕ → Refusal

@@ -10,9 +10,9 @@ use borrow.Author.Tests.{lt-ltb, le-ltb}
 use Rattle.numbers.specs.Choose.{choose}
 use Rattle.numbers.proofs.Choices.{choose-either}
 use Rattle.mixes.specs.Mixes.{merged, mixed, logical, arithmetic}
-use Rattle.mixes.proofs.Binary.{last-lt, pair-lt, pair-last, pair-half, low-last, low-half, low-suc, bit-suc}
+use Rattle.mixes.proofs.Binary.{last-lt, pair-lt, pair-last, pair-half, ones-last, ones-half, low-last, low-half, low-suc, bit-suc}
 use Rattle.mixes.proofs.Bitwise.{Bitwise, agree-all, mask, source, destination, and, xor}
-use Rattle.mixes.proofs.LogicalMixes.{logical-low}
+use Rattle.mixes.proofs.LogicalMixes.{logical-low, logical-source}
 use Rattle.mixes.proofs.ArithmeticMixes.{arithmetic-low}
 
 -- ---- the merge
@@ -35,6 +35,11 @@ pub merged-none : (n r d : ℕ) → merged n 0 r d ≡ d % 2 ^ n
 unfolding merged
 merged-none zero r d = rw (mod-one d)
 merged-none (suc n) r d = rw (merged-none n (r / 2) (d / 2), low-suc n d)
+
+pub merged-full : (n r d : ℕ) → merged n (2 ^ n - 1) r d ≡ r % 2 ^ n
+unfolding merged
+merged-full zero r d = rw (mod-one r)
+merged-full (suc n) r d = rw (ones-last n, ones-half n, merged-full n (r / 2) (d / 2), low-suc n r)
 
 pub merged-bit : (n i m r d : ℕ) → i < n → merged n m r d / 2 ^ i % 2 ≡ choose (eqb (m / 2 ^ i % 2) 1) (r / 2 ^ i % 2) (d / 2 ^ i % 2)
 unfolding merged
@@ -92,3 +97,8 @@ mixed-none n code s d = merged-none n _ d
 pub mixed-outside : (n code m s d i : ℕ) → i < n → m / 2 ^ i % 2 ≡ 0 → mixed n code m s d / 2 ^ i % 2 ≡ d / 2 ^ i % 2
 unfolding mixed
 mixed-outside n code m s d i h off = merged-bit n i m _ d h ∙ rw off
+
+-- mix S under all planes is S
+pub mixed-source : (n s d : ℕ) → mixed n 3 (2 ^ n - 1) s d ≡ s % 2 ^ n
+mixed-source n s d =
+    mixed-logical n 3 (2 ^ n - 1) s d (omega arith) ∙ merged-full n (logical n 3 s d) d ∙ rw (logical-source n s d) (mod-mod s (2 ^ n))

@@ -1,6 +1,7 @@
 pub mod Directions
 pub mod TurnLaws
 pub mod CircledLaws
+pub mod BlockLaws
 pub mod Choices
 pub mod Counters
 pub mod Kept

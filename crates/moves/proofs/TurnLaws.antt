@@ -79,14 +79,15 @@ module _ (last : ℕ) where
   turned-return Forth k x h = turn-back (last + 1) k x (omega arith) ∙ mod-eq-of-lt (omega arith)
   turned-return Back k x h = turn-forth (last + 1) k x (omega arith) ∙ mod-eq-of-lt (omega arith)
 
+  -- one step more
+  pub turned-more : (t : Turn) (k x : ℕ) → turnedBy t 1 last (turnedBy t k last x) ≡ turnedBy t (suc k) last x
+  turned-more t k x = sym (turned-add t 1 k x) ∙ ap (λ (n : ℕ). turnedBy t n last x) (omega arith)
+
   -- k single steps are one turn of k
   pub turned-singles : (t : Turn) (k x : ℕ) → x ≤ last → repeated (turnedBy t 1 last) k x ≡ turnedBy t k last x
   unfolding repeated
   turned-singles t zero x h = sym (turned-none t x h)
-  turned-singles t (suc k) x h =
-      ap (turnedBy t 1 last) (turned-singles t k x h)
-      ∙ sym (turned-add t 1 k x)
-      ∙ ap (λ (n : ℕ). turnedBy t n last x) (omega arith)
+  turned-singles t (suc k) x h = ap (turnedBy t 1 last) (turned-singles t k x h) ∙ turned-more t k x
 
   -- after k single steps, k the other way at once lead to where one was
   pub row-return : (t : Turn) (k x : ℕ) → x ≤ last → turnedBy (opposite t) k last (repeated (turnedBy t 1 last) k x) ≡ x

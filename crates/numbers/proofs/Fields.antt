@@ -1,9 +1,9 @@
 -- A field is what was put into it and no other field sees that: a number is its digits above, in and below the field.
-use mathlib.Core.Path.{_≡_, refl, sym, ap, _∙_}
+use mathlib.Core.Path.{_≡_, refl, sym, ap, ap₂, _∙_}
 use mathlib.Core.Logic.{_⊎_, inl, inr}
 use Prim.Native.Nat.{ℕ, zero, suc, _+_, _-_, _*_, _/_, _%_, _^_, _≤_, _<_}
-use native.Mathlib.Nat.{le-trans, lt-of-lt-of-le, one-mul, zero-mul, zero-add, add-zero, mul-comm, mul-assoc, add-mul, mul-le-mul-right}
-use native.Mathlib.Nat.{mod-lt, mod-le, mod-mod, mod-eq-of-lt, zero-mod, zero-div, div-mul-le-self, div-lt-iff-lt-mul}
+use native.Mathlib.Nat.{le-trans, lt-of-lt-of-le, one-mul, zero-mul, suc-mul, zero-add, add-zero, mul-comm, mul-assoc, add-mul, mul-le-mul-right}
+use native.Mathlib.Nat.{mod-lt, mod-le, mod-mod, mod-eq-of-lt, zero-mod, zero-div, div-one, div-mul-le-self, div-lt-iff-lt-mul}
 use native.Mathlib.Omega.{arith}
 use lib.Arith.{bin-ind}
 use lib.Bits.{bitXor, differ, xor-zero-r, xor-lt, xor-step, xor-block}
@@ -51,6 +51,22 @@ unfolding field
 field-shr s n k x h =
     let e : k + (s - k) ≡ s = omega arith in
     ap (λ (y : ℕ). y % 2 ^ n) (rw e at (shr-shr x k (s - k)))
+
+-- a number of so many fields of n bits is told by them
+pub fields-told : (n count x y : ℕ) → x < 2 ^ (count * n) → y < 2 ^ (count * n)
+    → ((i : ℕ) → i < count → field (i * n) n x ≡ field (i * n) n y) → x ≡ y
+unfolding field
+fields-told n zero x y h h' same = let none = rw (zero-mul n) at h in let none' = rw (zero-mul n) at h' in omega arith
+fields-told n (suc count) x y h h' same =
+    let more : suc count * n ≡ count * n + n = suc-mul count n in
+    let first : x % 2 ^ n ≡ y % 2 ^ n = rw (zero-mul n, div-one x, div-one y) at (same 0 (omega arith)) in
+    let above : x / 2 ^ n ≡ y / 2 ^ n =
+    fields-told n count (x / 2 ^ n) (y / 2 ^ n) (shr-lt (count * n) n (rw more at h)) (shr-lt (count * n) n (rw more at h'))
+    (λ i less. shifted x i ∙ same (suc i) (omega arith) ∙ sym (shifted y i)) in
+    sym (split x n) ∙ ap₂ (λ a b. a * 2 ^ n + b) above first ∙ split y n
+  where
+    shifted : (z i : ℕ) → z / 2 ^ n / 2 ^ (i * n) % 2 ^ n ≡ z / 2 ^ (suc i * n) % 2 ^ n
+    shifted z i = ap (λ (w : ℕ). w % 2 ^ n) (shr-shr z n (i * n) ∙ ap (λ (k : ℕ). z / 2 ^ k) (omega (arith, suc-mul i n)))
 
 -- ---- a number with another field
 

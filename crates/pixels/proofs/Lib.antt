@@ -1,3 +1,4 @@
 pub mod Examples
 pub mod Maps
+pub mod Bytes
 pub mod Pixels

@@ -3,8 +3,9 @@
 ghost use mathlib.Core.Path.{_≡_};
 ghost use Prim.Native.Nat.{_+_, _*_, _-_, _^_, _≤_, _<_};
 ghost use lib.ListN.{length, set};
+ghost use Rattle.numbers.specs.Choose.{choose};
 ghost use Rattle.numbers.specs.Fields.{field, withField};
-ghost use Rattle.pixels.specs.Maps.{bitsOf, neededOf, placeOf, shiftOf};
+ghost use Rattle.pixels.specs.Maps.{bitsOf, placeOf, isMotorola, shiftOf, neededOf};
 ghost use Rattle.pixels.specs.Pixels.{pixelAt, withPixel};
 ghost use Rattle.pixels.specs.Inner.{cellAt};
 
@@ -54,11 +55,19 @@ pub fn place(map: Map, x: u16, y: u16) -> usize
     (map.base as usize) + ((index(map, x, y) >> (3 - map.format % 4)) as usize)
 }
 
+// What turns over the number of a pixel within its byte: all bits in Motorola order, and none in Intel order.
+fn mirror(format: u8) -> u32
+    ensures { λ r. ⌜ r ≡ choose (isMotorola format) (2 ^ 32 - 1) 0 ⌝ }
+{
+    if format / 8 % 2 == 1 { 0xFFFF_FFFF } else { 0 }
+}
+
 // How far above its byte's lowest bit the pixel lies.
 fn shift(map: Map, x: u16, y: u16) -> u32
     ensures { λ r. ⌜ r ≡ shiftOf map x y ⌝ }
 {
-    (index(map, x, y) << (map.format % 4)) & 7
+    let turned = mirror(map.format);
+    ((index(map, x, y) ^ turned) << (map.format % 4)) & 7
 }
 
 // The largest number of so many bits.

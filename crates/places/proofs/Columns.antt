@@ -25,6 +25,12 @@ unfolding isWithin columnOf
 within-column last (pos n) e = leb-true n last e
 within-column last (negsuc n) e = absurd (false≢true e)
 
+-- and is that column
+pub within-place : (last : ℕ) (z : ℤ) → isWithin last z ≡ true → z ≡ pos (columnOf z)
+unfolding isWithin columnOf
+within-place last (pos n) e = refl
+within-place last (negsuc n) e = absurd (false≢true e)
+
 -- a number of 16 bits is one of 32
 pub widened : {z : ℤ} → SFits w16 z → SFits w32 z
 widened f = record { sfits = omega (arith, f .sfits) }

@@ -1,4 +1,5 @@
 pub mod Behind
 pub mod Examples
+pub mod Plain
 pub mod Safety
 pub mod Writing

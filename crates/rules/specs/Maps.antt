@@ -16,9 +16,9 @@ freshMap = record { base = 0; width = 0; height = 0; format = 0 }
 unfoldable pub mapAt : List Map → ℕ → Map
 mapAt maps field = getD maps (field % 4) freshMap
 
--- 01, refusal 7: the pixel code is 0 to 3 and the order bit is clear; docs/DECISIONS.md, 7: by these fields alone
+-- 01, refusal 7; 02, 101: the pixel code, bits 2 to 0, is 0 to 3, in either order
 unfoldable pub formatHolds : Map → Bool
-formatHolds map = ltb (map .format % 16) 4
+formatHolds map = ltb (map .format % 8) 4
 
 -- 01, refusal 7: a pixel of 1 bit
 unfoldable pub isOneBit : Map → Bool

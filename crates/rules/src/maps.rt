@@ -11,11 +11,11 @@ pub fn map_at(maps: [Map; 4], field: u32) -> Map
     maps[i]
 }
 
-// Whether the format is one of the four pixel sizes in Intel order.
+// Whether the format is one of the four pixel sizes.
 pub(crate) fn format_holds(map: Map) -> bool
     ensures { λ r. ⌜ r ≡ formatHolds map ⌝ }
 {
-    map.format % 16 < 4
+    map.format % 8 < 4
 }
 
 // Whether the map's pixels have one bit.

@@ -68,7 +68,7 @@ fn mixes_hold(colours: Colours) -> bool
     (colours.foreground.mix <= 0x15) & (colours.background.mix <= 0x15)
 }
 
-// Whether every used map has a pixel size in Intel order.
+// Whether every used map has one of the four pixel sizes.
 fn used_formats_hold(operations: u32, maps: [Map; 4]) -> bool
     ensures { λ r. ⌜ r ≡ usedMaps formatHolds operations maps ⌝ }
 {

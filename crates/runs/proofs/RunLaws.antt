@@ -7,7 +7,10 @@ use Prim.Native.Nat.{ℕ, zero, suc, _+_, _≤_, min}
 use native.Mathlib.Omega.{arith}
 use lib.ListN.{length, getD}
 use Rattle.numbers.proofs.Choices.{and-left}
-use Rattle.pixels.specs.Maps.{placeOf}
+use Rattle.numbers.specs.Fields.{field}
+use Rattle.pixels.specs.declared.Map.{Map}
+use Rattle.pixels.specs.Maps.{bitsOf, placeOf, shiftOf, Apart}
+use Rattle.pixels.specs.Pixels.{byteAt, pixelAt}
 use Rattle.parts.specs.declared.drawing.Drawing.{Drawing}
 use Rattle.parts.specs.declared.drawing.Drawing.the-variants.{Nothing, Line, Codes, Block}
 use Rattle.parts.specs.Drawings.{unfinished}
@@ -67,6 +70,13 @@ pub bytes-after : (s : Setup) (j : ℕ) → let map = s .brush .destination in
 unfolding positioned
 bytes-after s j ne n t =
     kept-after s (λ u. getD (u .memory) j 0 ≡ getD (t .memory) j 0) (λ u going h. drawn-other s (u .memory) (u .pen) j ne ∙ h) n t refl
+
+-- so does every pixel of a map that shares no byte with it
+pub pixels-after : (s : Setup) (map : Map) → Apart map (s .brush .destination) → (n : ℕ) (t : Run) (x y : ℕ) → x ≤ map .width → y ≤ map .height
+    → pixelAt (after s n t .memory) map x y ≡ pixelAt (t .memory) map x y
+unfolding byteAt pixelAt Apart
+pixels-after s map apart n t x y h v =
+    ap (field (shiftOf map x y) (bitsOf (map .format))) (bytes-after s (placeOf map x y) (λ x' y' h' v'. apart x y x' y' h v h' v') n t)
 
 -- every position of a safe drawing is safe
 pub safe-after : (s : Setup) (size n : ℕ) (t : Run) → Safe s size (t .pen) → Safe s size (after s n t .pen)

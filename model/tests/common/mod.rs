@@ -25,10 +25,14 @@ pub const fn line_at(done: u16) -> Drawing {
 
 /// Map format of 1-bit pixels.
 pub const BITS_1: u32 = 0;
+/// Map format of 2-bit pixels.
+pub const BITS_2: u32 = 1;
 /// Map format of 4-bit pixels.
 pub const BITS_4: u32 = 2;
 /// Map format of 8-bit pixels.
 pub const BITS_8: u32 = 3;
+/// The order bit of a map's format.
+pub const MOTOROLA: u32 = 8;
 
 /// A coprocessor and the memory it is lent.
 #[derive(Clone, Debug, PartialEq, Eq)]
@@ -188,8 +192,7 @@ impl Board {
     /// The pixel of a map.
     pub fn pixel(&self, index: usize, x: u32, y: u32) -> u32 {
         let map = &self.coprocessor.registers.maps[index];
-        let (row_length, bits) = (map.row_length(), map.bits());
-        pixels::get(&self.memory, map.base, row_length, bits, x, y)
+        pixels::get(&self.memory, &map.layout(), (x, y))
     }
 
     /// The pixels of a map's row.
@@ -200,12 +203,11 @@ impl Board {
 
     /// Sets a map's pixels row by row, each a digit of a row's text.
     pub fn paint(&mut self, index: usize, rows: &[&str]) {
-        let map = self.coprocessor.registers.maps[index];
+        let layout = self.coprocessor.registers.maps[index].layout();
         for (y, row) in (0..).zip(rows) {
             for (x, pixel) in (0..).zip(row.chars()) {
                 let value = pixel.to_digit(16).expect("a digit");
-                let (row_length, bits) = (map.row_length(), map.bits());
-                pixels::put(&mut self.memory, map.base, row_length, bits, x, y, value);
+                pixels::put(&mut self.memory, &layout, (x, y), value);
             }
         }
     }
