@@ -4,19 +4,17 @@ use mathlib.Core.Bool.{Bool, true, false, not, _||_}
 use Prim.Native.Nat.{ℕ, _%_}
 use lib.Dec.{eqb}
 use borrow.Author.Tests.{eqb-true, eq-eqb}
-use Rattle.numbers.proofs.Choices.{choose-false, choose-part, and-left, and-right}
+use Rattle.numbers.proofs.Choices.{choose-false, choose-part}
 use Rattle.parts.specs.Drawings.{unfinished}
-use Rattle.parts.specs.Reduced.{spotReduced, pointersReduced, registersReduced}
-use Rattle.parts.proofs.ReducedLaws.{destination-circle-fixed}
 use Rattle.rules.specs.Operations.{functionOf, drawingMode, isFill, isBlock, modeOf, octantOf}
 use Rattle.moves.specs.declared.Step.{Step}
 use Rattle.moves.specs.Decoded.{straightOf, courseOf, travelOf}
 use Rattle.places.specs.Decoded.{flowOf, brushOf}
-use Rattle.moves.proofs.CircledLaws.{OnCircle}
 use Rattle.places.specs.Places.{isNulled}
 use Rattle.coprocessor.specs.declared.Coprocessor.{Coprocessor}
-use Rattle.coprocessor.specs.Valid.{reducedOf, validOf}
+use Rattle.coprocessor.specs.Valid.{validOf}
 use Rattle.coprocessor.specs.Runs.{setupOf, penOf}
+use Rattle.coprocessor.proofs.KnownRuns.{destination-on}
 use Rattle.areas.specs.Crossings.{penAfter, crosses}
 use Rattle.areas.specs.Outlines.{atStart}
 use Rattle.areas.proofs.Reached.{Bounding}
@@ -45,11 +43,6 @@ bounding c mode =
       straight = sym (choose-part (λ (s : Step). s .y) (eqb (octant % 2) 1) _ _);
     }
 
--- a valid record's destination is on its circle
-pub destination-on : (c : Coprocessor) → validOf c ≡ true → OnCircle (c .registers .pointers .destination .y)
-unfolding validOf reducedOf registersReduced pointersReduced spotReduced
-destination-on c v = destination-circle-fixed (c .registers .pointers .destination .y) (search (v, and-left, and-right))
-
 -- 02, 102: a mode 11 line or code of a write form draws a position exactly if the one after it lies in the row below, or the one before it lay there
 pub drawn-by-rows : (c : Coprocessor) → validOf c ≡ true
     → (eqb (functionOf (c .registers .figure .operations)) 4 || eqb (functionOf (c .registers .figure .operations)) 5) ≡ true
@@ -61,4 +54,4 @@ unfolding setupOf penOf travelOf brushOf flowOf courseOf modeOf isBlock isFill
 drawn-by-rows c valid function mode start =
     let w = writes (functionOf (c .registers .figure .operations)) function in
     let eleven : modeOf (c .registers .figure .operations) ≡ 3 = choose-false _ _ (w .block) ∙ mode in
-    boundary-drawn (setupOf c) (penOf c) eleven (bounding c eleven) (w .read) start (destination-on c valid)
+    boundary-drawn (setupOf c) (penOf c) eleven (bounding c eleven) (w .read) start (destination-on c valid .1)

@@ -1,32 +1,27 @@
 -- The parity of an outline: each of its strokes is set up to turn pixels, so all of them together turn a pixel as often as they cross there.
-use mathlib.Core.Path.{_≡_, sym, ap, ap₂, subst, _∙_}
+use mathlib.Core.Path.{_≡_, sym, ap, subst, _∙_}
 use mathlib.Core.Bool.{true}
 use mathlib.Core.List.{List}
 use Prim.Native.Nat.{ℕ, _+_, _%_, _^_, _≤_, _<_}
 use native.Mathlib.Omega.{arith}
 use lib.ListN.{length}
-use borrow.Author.Tests.{leb-true, eq-eqb}
+use borrow.Author.Tests.{eq-eqb}
 use Rattle.numbers.proofs.Choices.{choose-true, choose-false}
 use Rattle.pixels.specs.declared.Map.{Map}
-use Rattle.pixels.specs.Maps.{bitsOf, placeOf, neededOf}
+use Rattle.pixels.specs.Maps.{bitsOf, placeOf}
 use Rattle.pixels.specs.Pixels.{pixelAt}
-use Rattle.pixels.proofs.Maps.{place-lt}
 use Rattle.pixels.proofs.Pixels.{pixel-lt}
 use Rattle.parts.specs.Drawings.{unfinished}
-use Rattle.parts.specs.Refusals.{isAccepted}
 use Rattle.rules.specs.Operations.{functionOf, isMap, isFill, isBlock, modeOf, usesPattern}
-use Rattle.rules.specs.Maps.{endHolds}
 use Rattle.mixes.specs.Mixes.{depthOf}
 use Rattle.moves.specs.Decoded.{courseOf, travelOf}
 use Rattle.places.specs.Decoded.{edgeOf, flowOf, brushOf}
-use Rattle.runs.specs.Runs.{begun}
-use Rattle.runs.proofs.RunLaws.{length-after}
 use Rattle.coprocessor.specs.declared.Coprocessor.{Coprocessor}
-use Rattle.coprocessor.specs.Runs.{setupOf, penOf, ranOf, wholeOf, runRefusal, runMemory}
-use Rattle.coprocessor.proofs.SafeLaws.{valid-safe}
+use Rattle.coprocessor.specs.Runs.{setupOf, penOf, ranOf, wholeOf, runMemory}
+use Rattle.coprocessor.proofs.KnownRuns.{destination-on, destination-held, run-memory, run-length}
 use Rattle.areas.specs.Crossings.{crossings}
 use Rattle.areas.specs.Outlines.{Stroke, Strokes, none, more, outlined, crossingsOf}
-use Rattle.areas.proofs.DrawnByRows.{writes, bounding, destination-on}
+use Rattle.areas.proofs.DrawnByRows.{writes, bounding}
 use Rattle.areas.proofs.Toggles.{Toggles}
 use Rattle.areas.proofs.Strokes.{toggled-after}
 
@@ -57,39 +52,19 @@ module _ (map : Map) (size : ℕ) (c : Coprocessor) (stroke : Stroke map size c)
         plane = ap (λ (n : ℕ). c .registers .colours .planes % 2 ^ n % 2) bits ∙ plane;
       }
 
-  -- its map ends within the memory
-  stroke-held : unfinished (c .drawing) ≡ true → (x y : ℕ) → x ≤ map .width → y ≤ map .height → placeOf map x y < size
-  unfolding setupOf brushOf endHolds
-  stroke-held going x y across down =
-      let ends : endHolds size map ≡ true =
-      ap₂ endHolds (sym (stroke .memory)) (sym (stroke .destination)) ∙ valid-safe c (stroke .valid) going .destination in
-      omega (arith, place-lt map x y across down, leb-true (map .base + neededOf map) size ends)
-
   -- ---- its run
-
-  run-accepted : (memory : List ℕ) → length memory ≡ size → isAccepted (runRefusal c memory) ≡ true
-  unfolding runRefusal
-  run-accepted memory same = simp (eq-eqb (length memory) (c .size) (same ∙ sym (stroke .memory)), stroke .valid)
-
-  run-memory : (memory : List ℕ) → length memory ≡ size → (n : ℕ) → runMemory c memory n ≡ ranOf c memory n .memory
-  unfolding runMemory
-  run-memory memory same n = choose-true _ _ (run-accepted memory same)
-
-  run-length : (memory : List ℕ) → length memory ≡ size → (n : ℕ) → length (runMemory c memory n) ≡ size
-  unfolding ranOf begun
-  run-length memory same n = ap length (run-memory memory same n) ∙ length-after (setupOf c) n (begun (penOf c) memory) ∙ same
 
   run-toggles : bitsOf (map .format) ≡ 1 → (memory : List ℕ) → length memory ≡ size → (x y : ℕ) → x ≤ map .width → y ≤ map .height → (n : ℕ)
       → pixelAt (runMemory c memory n) map x y ≡ (pixelAt memory map x y + crossings (setupOf c .travel) (penOf c) x y n) % 2
   unfolding ranOf setupOf penOf brushOf
   run-toggles one memory same x y across down n =
-      ap (λ (m : List ℕ). pixelAt m map x y) (run-memory memory same n)
+      ap (λ (m : List ℕ). pixelAt m map x y) (run-memory c (stroke .valid) memory (same ∙ sym (stroke .memory)) n)
       ∙ subst
       (λ (m : Map).
       x ≤ m .width → y ≤ m .height → (unfinished (c .drawing) ≡ true → placeOf m x y < length memory)
       → pixelAt (ranOf c memory n .memory) m x y ≡ (pixelAt memory m x y + crossings (setupOf c .travel) (penOf c) x y n) % 2) (stroke .destination)
-      (λ a d h. toggled-after (setupOf c) (stroke-toggles one) (penOf c) (stroke .start) (destination-on c (stroke .valid)) memory x y a d h n)
-      across down (λ going. rw same (stroke-held going x y across down))
+      (λ a d h. toggled-after (setupOf c) (stroke-toggles one) (penOf c) (stroke .start) (destination-on c (stroke .valid) .1) memory x y a d h n)
+      across down (λ going. rw (stroke .destination, stroke .memory, ← same) at (destination-held c (stroke .valid) going x y) across down)
 
 -- ---- all strokes
 
@@ -100,7 +75,7 @@ module _ (map : Map) (size : ℕ) (one : bitsOf (map .format) ≡ 1) (x y : ℕ)
   outline-toggles none memory same = omega (arith, rw one at (pixel-lt memory map x y))
   outline-toggles (more {c} {cs} stroke strokes) memory same =
       let first = run-toggles map size c stroke one memory same x y across down (wholeOf c) in
-      outline-toggles strokes (runMemory c memory (wholeOf c)) (run-length map size c stroke memory same (wholeOf c)) ∙ omega arith
+      outline-toggles strokes (runMemory c memory (wholeOf c)) (run-length c (stroke .valid) memory (same ∙ sym (stroke .memory)) (wholeOf c) ∙ same) ∙ omega arith
 
 -- 02, 102: drawn into a map of zeros an outline leaves 1 where it crosses an odd number of times, and 0 elsewhere
 pub outline-parity : (map : Map) (size : ℕ) (cs : List Coprocessor) (memory : List ℕ)

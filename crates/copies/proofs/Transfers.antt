@@ -26,8 +26,9 @@ use Rattle.moves.specs.Decoded.{signOf}
 use Rattle.places.specs.Places.{isWithin, columnOf}
 use Rattle.coprocessor.specs.declared.Coprocessor.{Coprocessor}
 use Rattle.coprocessor.specs.Runs.{wholeOf, runMemory}
+use Rattle.coprocessor.proofs.KnownRuns.{run-length}
 use Rattle.copies.specs.Copies.{fromMap, toMap, fromPlace, toPlace, Transfer}
-use Rattle.copies.proofs.Copied.{columns-few, rows-few, block-copied, block-unchanged, run-length, run-bytes, run-source, run-other}
+use Rattle.copies.proofs.Copied.{columns-few, rows-few, block-copied, block-unchanged, run-bytes, run-source, run-other}
 
 module _ (a b : Map) (c : Coprocessor) (t : Transfer a b c) where
   columns : c .registers .figure .dimensions .x ≡ a .width
@@ -116,7 +117,7 @@ module _ (a b : Map) (there back : Coprocessor) (t : Transfer a b there) (u : Tr
   middle = runMemory there memory (wholeOf there)
 
   middle-whole : length middle ≡ back .size
-  middle-whole = run-length there (t .copy) memory whole (wholeOf there) ∙ whole ∙ size
+  middle-whole = run-length there (t .copy .valid) memory whole (wholeOf there) ∙ whole ∙ size
 
   -- there its own pixels are in the first map still
   middle-first : (x y : ℕ) → x ≤ a .width → y ≤ a .height → pixelAt middle a x y ≡ pixelAt memory a x y
