@@ -1,5 +1,6 @@
 # bench: plays lines on the bench program.   test: the whole gate.   compare: the proved code against the independent program.
-# speed: the proved code beside plain Rust.   picture: a motif in target/picture.pgm.   example: the sample line from C.
+# speed: the proved code beside plain Rust.   size: where the library's bytes go.   picture: a motif in target/picture.pgm.
+# example: the sample line from C.
 # What is being proved, and how far the comparison is, goes to standard error.
 COUNT ?= 120000
 SEED ?= 1
@@ -8,7 +9,7 @@ IMAGES ?= 20000
 OUTLINES ?= 20000
 INPUT ?= crates/bench/stdin
 
-.PHONY: bench test compare speed picture example library
+.PHONY: bench test compare speed size picture example library
 
 bench:
 	@scripts/prove.sh check bench
@@ -24,6 +25,10 @@ compare: library
 speed: library
 	@cargo run --offline --quiet --profile speed --manifest-path compare/Cargo.toml --bin speed
 	@size target/staticlib/libboard.a | awk 'NR > 1 { text += $$1 } END { print "libboard.a: " text " bytes of text" }'
+
+size: library
+	@scripts/size.sh target/staticlib/libboard.a
+	@scripts/size.sh target/staticlib/libleaves.a
 
 picture: library
 	@cargo run --offline --quiet --release --manifest-path compare/Cargo.toml --bin picture -- target/picture.pgm

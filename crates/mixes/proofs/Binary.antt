@@ -1,5 +1,5 @@
 -- A number is its last bit and its half: what this makes of low bits, of all ones and of bit i, by linear arithmetic once 2 ^ suc n is 2 ^ n * 2.
-use mathlib.Core.Logic.{_⊎_, inl, inr}
+use mathlib.Core.Logic.{_⊎_, inl, inr, ⊎-elim}
 use mathlib.Core.Path.{_≡_, refl, _∙_, sym, ap}
 use Prim.Native.Nat.{ℕ, zero, suc, _+_, _-_, _*_, _/_, _%_, _^_, _≤_, _<_}
 use native.Mathlib.Nat.{lt-of-lt-of-le, pow-suc, pow-succ', div-div-eq-div-mul}
@@ -17,6 +17,9 @@ last-cases x = bit (x % 2) (last-lt x)
     bit zero h = inl refl
     bit (suc zero) h = inr refl
     bit (suc (suc b)) h = absurd (omega arith)
+
+pub last-not : (x : ℕ) → (x % 2 ≡ 1 → ⊥) → x % 2 ≡ 0
+last-not x unset = ⊎-elim (λ none. none) (λ one. absurd (unset one)) (last-cases x)
 
 pub half-lt : (n : ℕ) {x : ℕ} → x < 2 ^ suc n → x / 2 < 2 ^ n
 half-lt n h = omega (arith, pow-suc 2 n)

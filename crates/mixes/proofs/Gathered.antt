@@ -1,49 +1,55 @@
--- The enabled bits as one number, and back: bounds, low bits, the full mask and the way round, each by induction on the pixel's bits.
+-- The enabled bits as one number, and back: bounds, low bits, no bits and the way round, each by induction on the pixel's bits.
 use mathlib.Core.Bool.{Bool, true, false}
 use mathlib.Core.Logic.{⊎-elim}
-use mathlib.Core.Path.{_≡_, refl, sym, ap, _∙_}
+use mathlib.Core.Path.{_≡_, refl, sym, _∙_}
 use Prim.Native.Nat.{ℕ, zero, suc, _+_, _-_, _*_, _/_, _%_, _^_, _<_}
 use native.Mathlib.Nat.{mod-one}
 use native.Mathlib.Omega.{arith}
 use lib.Bits.{bitAnd, and-step, and-zero-r}
 use lib.Dec.{eqb}
-use borrow.Author.Tests.{ne-eqb}
 use Rattle.numbers.specs.Choose.{choose}
+use Rattle.numbers.proofs.Choices.{choose-either}
 use Rattle.mixes.specs.Mixes.{gathered, scattered}
-use Rattle.mixes.proofs.Binary.{last-lt, last-cases, pair-lt, pair-last, pair-half, ones-last, ones-half, low-last, low-half, low-suc}
+use Rattle.mixes.proofs.Binary.{last-lt, last-cases, pair-lt, pair-last, pair-half, low-last, low-half}
 
 -- ---- one bit of the mask
 
-module _ (n m : ℕ) (more : 0 < n) where
-  counted : n ≡ suc (n - 1)
-  counted = omega arith
+pub gathered-taken : (n m x : ℕ) → m % 2 ≡ 1 → gathered (suc n) m x ≡ x % 2 + 2 * gathered n (m / 2) (x / 2)
+unfolding gathered
+gathered-taken n m x h = rw h
 
-  pub gathered-taken : (x : ℕ) → m % 2 ≡ 1 → gathered n m x ≡ x % 2 + 2 * gathered (n - 1) (m / 2) (x / 2)
-  unfolding gathered
-  gathered-taken x h = ap (λ (k : ℕ). gathered k m x) counted ∙ rw h
+pub gathered-passed : (n m x : ℕ) → m % 2 ≡ 0 → gathered (suc n) m x ≡ gathered n (m / 2) (x / 2)
+unfolding gathered
+gathered-passed n m x h = rw h
 
-  pub gathered-passed : (x : ℕ) → (m % 2 ≡ 1 → ⊥) → gathered n m x ≡ gathered (n - 1) (m / 2) (x / 2)
-  unfolding gathered
-  gathered-passed x h = ap (λ (k : ℕ). gathered k m x) counted ∙ rw (ne-eqb (m % 2) 1 h)
+pub scattered-taken : (n m y : ℕ) → m % 2 ≡ 1 → scattered (suc n) m y ≡ y % 2 + 2 * scattered n (m / 2) (y / 2)
+unfolding scattered
+scattered-taken n m y h = rw h
 
-  pub scattered-taken : (y : ℕ) → m % 2 ≡ 1 → scattered n m y ≡ y % 2 + 2 * scattered (n - 1) (m / 2) (y / 2)
-  unfolding scattered
-  scattered-taken y h = ap (λ (k : ℕ). scattered k m y) counted ∙ rw h
+pub scattered-passed : (n m y : ℕ) → m % 2 ≡ 0 → scattered (suc n) m y ≡ 2 * scattered n (m / 2) y
+unfolding scattered
+scattered-passed n m y h = rw h
 
-  pub scattered-passed : (y : ℕ) → (m % 2 ≡ 1 → ⊥) → scattered n m y ≡ 2 * scattered (n - 1) (m / 2) y
-  unfolding scattered
-  scattered-passed y h = ap (λ (k : ℕ). scattered k m y) counted ∙ rw (ne-eqb (m % 2) 1 h)
+-- what a mask leaves of x
+pub and-taken : (m x : ℕ) → m % 2 ≡ 1 → bitAnd x m ≡ x % 2 + 2 * bitAnd (x / 2) (m / 2)
+and-taken m x h = rw (and-step x m, h) (omega arith)
+
+pub and-passed : (m x : ℕ) → m % 2 ≡ 0 → bitAnd x m ≡ 2 * bitAnd (x / 2) (m / 2)
+and-passed m x h = rw (and-step x m, h) (omega arith)
+
+-- ---- a bit and the rest
+
+module _ (m b x : ℕ) (h : b < 2) where
+  pub pair-taken : m % 2 ≡ 1 → bitAnd (b + 2 * x) m ≡ b + 2 * bitAnd x (m / 2)
+  pair-taken taken = rw (and-taken m (b + 2 * x) taken, pair-last b x h, pair-half b x h)
+
+  pub pair-passed : m % 2 ≡ 0 → bitAnd (b + 2 * x) m ≡ 2 * bitAnd x (m / 2)
+  pair-passed passed = rw (and-passed m (b + 2 * x) passed, pair-half b x h)
+
+  pub pair-scattered : (n : ℕ) → m % 2 ≡ 1 → scattered (suc n) m (b + 2 * x) ≡ b + 2 * scattered n (m / 2) x
+  pair-scattered n taken = rw (scattered-taken n m (b + 2 * x) taken, pair-last b x h, pair-half b x h)
 
 -- ---- bounds
-
-pub gathered-lt : (n m x : ℕ) → gathered n m x < 2 ^ n
-unfolding gathered
-gathered-lt zero m x = omega arith
-gathered-lt (suc n) m x = by-bit (eqb (m % 2) 1) (gathered-lt n (m / 2) (x / 2))
-  where
-    by-bit : (t : Bool) {g : ℕ} → g < 2 ^ n → choose t (x % 2 + 2 * g) g < 2 ^ suc n
-    by-bit true h = pair-lt n (last-lt x) h
-    by-bit false h = omega (arith, pair-lt n (last-lt x) h)
 
 pub scattered-lt : (n m y : ℕ) → scattered n m y < 2 ^ n
 unfolding scattered
@@ -67,26 +73,31 @@ scattered-low zero m y = refl
 scattered-low (suc n) m y =
     rw (low-last n m, low-half n m, scattered-low n (m / 2) (y / 2), scattered-low n (m / 2) y)
 
--- ---- where all bits are enabled
+-- ---- nothing
 
-pub gathered-full : (n x : ℕ) → gathered n (2 ^ n - 1) x ≡ x % 2 ^ n
+pub gathered-none : (n x : ℕ) → gathered n 0 x ≡ 0
 unfolding gathered
-gathered-full zero x = omega arith
-gathered-full (suc n) x = rw (ones-last n, ones-half n, gathered-full n (x / 2), low-suc n x)
+gathered-none zero x = refl
+gathered-none (suc n) x = gathered-none n (x / 2)
 
-pub scattered-full : (n y : ℕ) → scattered n (2 ^ n - 1) y ≡ y % 2 ^ n
+pub scattered-none : (n y : ℕ) → scattered n 0 y ≡ 0
 unfolding scattered
-scattered-full zero y = omega arith
-scattered-full (suc n) y = rw (ones-last n, ones-half n, scattered-full n (y / 2), low-suc n y)
+scattered-none zero y = refl
+scattered-none (suc n) y = rw (scattered-none n y)
+
+pub scattered-zero : (n m : ℕ) → scattered n m 0 ≡ 0
+unfolding scattered
+scattered-zero zero m = refl
+scattered-zero (suc n) m = choose-either (λ (x : ℕ). x ≡ 0) (eqb (m % 2) 1) (rw (scattered-zero n (m / 2))) (rw (scattered-zero n (m / 2)))
 
 -- ---- the way round
 
 -- what the mask leaves of x, by the mask's last bit
 pub masked-taken : (n m x : ℕ) → m % 2 ≡ 1 → bitAnd x (m % 2 ^ suc n) ≡ x % 2 + 2 * bitAnd (x / 2) (m / 2 % 2 ^ n)
-masked-taken n m x h = rw (and-step x (m % 2 ^ suc n), low-last n m, low-half n m, h) (omega arith)
+masked-taken n m x h = rw (← low-half n m) (and-taken (m % 2 ^ suc n) x (low-last n m ∙ h))
 
 pub masked-passed : (n m x : ℕ) → m % 2 ≡ 0 → bitAnd x (m % 2 ^ suc n) ≡ 2 * bitAnd (x / 2) (m / 2 % 2 ^ n)
-masked-passed n m x h = rw (and-step x (m % 2 ^ suc n), low-last n m, low-half n m, h) (omega arith)
+masked-passed n m x h = rw (← low-half n m) (and-passed (m % 2 ^ suc n) x (low-last n m ∙ h))
 
 pub scattered-gathered : (n m x : ℕ) → scattered n m (gathered n m x) ≡ bitAnd x (m % 2 ^ n)
 unfolding gathered scattered

@@ -3,9 +3,12 @@ pub mod Bitwise
 pub mod Codes
 pub mod LogicalMixes
 pub mod Gathered
-pub mod Building
+pub mod Order
+pub mod Sums
+pub mod Differences
+pub mod Halves
 pub mod ArithmeticMixes
 pub mod Mixed
+pub mod Blends
 pub mod Depths
-pub mod Order
 pub mod Examples

@@ -1,14 +1,12 @@
--- The logical mixes: the truth table works bit by bit, so an operation that does so too is the mix of a code where four pairs of bits say so.
+-- The logical mixes: the truth table works bit by bit, and only the pixels' low bits count.
 use mathlib.Core.Path.{_≡_, refl, sym, _∙_}
-use mathlib.Core.Bool.{Bool}
 use Prim.Native.Nat.{ℕ, zero, suc, _+_, _-_, _*_, _/_, _%_, _^_, _<_}
-use native.Mathlib.Nat.{add-zero, mod-lt, mod-mod}
+use native.Mathlib.Nat.{mod-lt, mod-mod}
 use native.Mathlib.Omega.{arith}
-use lib.Dec.{T}
 use lib.Pow.{pow-pos}
 use Rattle.mixes.specs.Mixes.{tableBit, logical}
 use Rattle.mixes.proofs.Binary.{pair-lt, last-lt, low-last, low-half}
-use Rattle.mixes.proofs.Bitwise.{Bitwise, agree, agree-all, source}
+use Rattle.mixes.proofs.Bitwise.{Bitwise, agree-all, source}
 
 pub tableBit-lt : (code s d : ℕ) → tableBit code s d < 2
 unfolding tableBit
@@ -38,15 +36,8 @@ logical-bitwise code =
       step = λ n m s d. logical-step n code s d;
     }
 
--- on single bits an operation is the table of this code
-abbrev pub tabled : ℕ → (ℕ → ℕ → ℕ → ℕ → ℕ) → Bool
-tabled code f = agree f (λ n m s d. code / 2 ^ (3 - (2 * s + d)) % 2)
-
-pub is-logical : (code : ℕ) {f : ℕ → ℕ → ℕ → ℕ → ℕ} → Bitwise f → T (tabled code f)
-    → (n : ℕ) {s d : ℕ} → s < 2 ^ n → d < 2 ^ n → f n 0 s d ≡ logical n code s d
-unfolding tableBit logical
-is-logical code F t n hs hd = agree-all F (logical-bitwise code) (simp add-zero t) n 0 _ _ (pow-pos n) hs hd
-
 -- mix 3 is the source
 pub logical-source : (n s d : ℕ) → logical n 3 s d ≡ s % 2 ^ n
-logical-source n s d = sym (is-logical 3 source tt n (mod-lt s (pow-pos n)) (mod-lt d (pow-pos n)) ∙ logical-low n 3 s d)
+unfolding tableBit logical
+logical-source n s d =
+    sym (agree-all source (logical-bitwise 3) tt n 0 _ _ (pow-pos n) (mod-lt s (pow-pos n)) (mod-lt d (pow-pos n)) ∙ logical-low n 3 s d)

@@ -31,6 +31,10 @@ merged-low zero m r d = refl
 merged-low (suc n) m r d =
     rw (low-last n m, low-last n d, low-half n m, low-half n d, merged-low n (m / 2) (r / 2) (d / 2))
 
+-- so cutting the destination changes nothing
+pub merged-pixel : (n m r d : ℕ) → merged n m r (d % 2 ^ n) ≡ merged n m r d
+merged-pixel n m r d = sym (merged-low n m r (d % 2 ^ n)) ∙ rw (mod-mod d (2 ^ n)) (merged-low n m r d)
+
 pub merged-none : (n r d : ℕ) → merged n 0 r d ≡ d % 2 ^ n
 unfolding merged
 merged-none zero r d = rw (mod-one d)

@@ -4,11 +4,12 @@ ghost use Prim.Native.Nat.{_^_, _≤_, _<_};
 ghost use Rattle.mixes.specs.Mixes.{depthOf, merged, mixed};
 ghost use Rattle.mixes.specs.Inner.{Cut};
 use arithmetic::arithmetic;
-use logical::logical;
+use logical::blend_of;
+use logical::blend_pixels;
 
 mod arithmetic;
 pub mod conditions;
-mod logical;
+pub mod logical;
 
 // The bits of a pixel, the pixel that is all ones, and the plane mask cut to them: worked once for a drawing.
 pub struct Depth {
@@ -44,11 +45,9 @@ pub fn mix(depth: Depth, code: u8, source: u32, destination: u32) -> u32
     requires { ⌜ Cut depth ⌝ }
     ensures { λ r. ⌜ r ≡ mixed (depth .bits) code (depth .planes) source destination ⌝ }
 {
-    let s = source & depth.ones;
-    let d = destination & depth.ones;
     if code < 16 {
-        merge(depth, logical(depth, code, s, d), d)
-    } else {
-        merge(depth, arithmetic(depth, code, s, d), d)
+        return blend_pixels(depth, blend_of(depth, code), source, destination);
     }
+    let result = arithmetic(depth, code, source, destination);
+    merge(depth, result, destination & depth.ones)
 }

@@ -2,17 +2,23 @@
 use mathlib.Core.Path.{_≡_}
 use mathlib.Core.Bool.{Bool, true, false, not}
 use mathlib.Core.List.{List}
-use Prim.Native.Nat.{ℕ}
+use Prim.Native.Nat.{ℕ, _<_}
 use Rattle.numbers.specs.Choose.{choose}
 use Rattle.pixels.specs.Inner.{cellAt}
-use Rattle.mixes.specs.Inner.{Cut}
+use Rattle.mixes.specs.declared.Depth.{Depth}
+use Rattle.mixes.specs.declared.logical.Blend.{Blend}
+use Rattle.mixes.specs.Mixes.{mixed}
+use Rattle.mixes.specs.Inner.{Cut, blended}
+use Rattle.parts.specs.declared.shapes.Ink.{Ink}
 use Rattle.rules.specs.Maps.{endHolds}
 use Rattle.moves.specs.declared.Pen.{Pen}
 use Rattle.moves.specs.Inner.{pointersInside}
+use Rattle.places.specs.declared.Brush.{Brush}
 use Rattle.places.specs.declared.Setup.{Setup}
 use Rattle.places.specs.Places.{columnOf, placeX, onMap, inMask, isMove, isNulled}
 use Rattle.position.specs.declared.Fate.{Fate}
 use Rattle.position.specs.declared.Fate.the-variants.{Moved, Nulled, OutsideMap, OutsideMask, MaskZero, Compared, Painted}
+use Rattle.position.specs.declared.Blends.{Blends}
 use Rattle.position.specs.declared.Pattern.{Pattern}
 use Rattle.position.specs.declared.Sight.{Sight}
 use Rattle.position.specs.Fates.{destinationPixel, onZero}
@@ -62,6 +68,19 @@ pub record Seen (s : Setup) (memory : List ℕ) (pen : Pen) (sight : Sight) : Ty
   pub foreseen : sight .foreseen ≡ foreseenOf s pen
   pub zero : isPainted (foreseenOf s pen) ≡ true → sight .zero ≡ onZero (s .brush) memory pen
   pub target : isPainted (foreseenOf s pen) ≡ true → onZero (s .brush) memory pen ≡ false → Target s memory pen sight
+
+-- a blend is an ink's: where its mix is logical, the blend makes that, of the source pixel where the ink takes it and otherwise of
+-- its colour
+abbrev pub InkBlend : Depth → Ink → Bool → Blend → Type 0
+InkBlend depth ink takes blend =
+    ink .mix < 16 → (s d : ℕ) → blended (depth .bits) blend s d ≡ mixed (depth .bits) (ink .mix) (depth .planes) (choose takes s (ink .colour)) d
+
+-- the blends are those of the inks
+abbrev pub InkBlends : Brush → Blends → Type 0
+InkBlends b blends =
+    (foreground : Bool)
+    → InkBlend (b .depth) (choose foreground (b .colours .foreground) (b .colours .background))
+    (choose foreground (b .flow .foreground) (b .flow .background)) (choose foreground (blends .foreground) (blends .background))
 
 -- every used map ends within a memory of this size, and used source and pattern pointers lie in theirs: what every move keeps
 pub record Safe (s : Setup) (size : ℕ) (pen : Pen) : Type 0 where

@@ -1,7 +1,9 @@
 // One position: what it finds, what becomes of it, and what it writes.
+use mixes::logical::Blend;
 use pixels::Cell;
 
 pub mod drawn;
+pub mod inks;
 mod judge;
 mod look;
 mod write;
@@ -15,6 +17,12 @@ pub enum Fate {
     MaskZero,
     Compared,
     Painted,
+}
+
+// The logical mixes of foreground and background under the plane mask.
+pub struct Blends {
+    pub foreground: Blend,
+    pub background: Blend,
 }
 
 // What a position finds of its pattern: whether it is 1, and whether a fill is inside then.

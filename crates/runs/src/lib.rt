@@ -10,6 +10,7 @@ use moves::passage::next;
 use parts::drawing::is_unfinished;
 use places::Setup;
 use position::drawn::draw;
+use position::inks::blends_of;
 
 // What a run leaves beside memory: the pen, and the positions done.
 pub struct Ran {
@@ -25,12 +26,13 @@ pub fn run(setup: Setup, from: Pen, memory: &mut [u8], allowance: u32) -> Ran
         × (r .done ≡ after setup allowance (begun from (now (memory .entry))) .done)
         × (now (memory .exit) ≡ after setup allowance (begun from (now (memory .entry))) .memory) ⌝ }
 {
+    let blends = blends_of(setup.brush);
     let mut pen = from;
     let mut done: u32 = 0;
     let first = from.drawing;
     let mut going = is_unfinished(first);
     while (done < allowance) & going {
-        let inside = draw(setup, memory, pen);
+        let inside = draw(setup, blends, memory, pen);
         pen = next(setup.travel, inside, pen);
         done += 1;
         let drawing = pen.drawing;

@@ -19,7 +19,7 @@ use Rattle.runs.proofs.run.Statement.{statement}
 use Rattle.runs.proofs.run.Tie as tie
 
 abbrev Inv-loop : tie.InvT-loop
-Inv-loop setup memory₀ allowance pen₀ done₀ going₀ memory pen done going =
+Inv-loop setup memory₀ allowance blends pen₀ done₀ going₀ memory pen done going =
     (done ≤ allowance)
     × (length memory ≡ length memory₀)
     × (after setup done (begun pen₀ memory₀) ≡ record { pen = pen; memory = memory; done = done })
@@ -27,13 +27,13 @@ Inv-loop setup memory₀ allowance pen₀ done₀ going₀ memory pen done going
     × (going ≡ true → Safe setup (length memory₀) pen)
 
 abbrev μ-loop : tie.MeasureT-loop
-μ-loop setup memory₀ allowance pen₀ done₀ going₀ memory pen done going = allowance - done
+μ-loop setup memory₀ allowance blends pen₀ done₀ going₀ memory pen done going = allowance - done
 
 -- what the loop's test says of a turn
-turn : (c : tie.In-loop Inv-loop μ-loop) → let a = c .before .before .before .before .args in
+turn : (c : tie.In-loop Inv-loop μ-loop) → let a = c .before .before .before .before .before .args in
     (c .before .loop .done < a .allowance) × (c .before .loop .going ≡ true)
 turn c =
-    let less = ltb (c .before .loop .done) (c .before .before .before .before .args .allowance) in
+    let less = ltb (c .before .loop .done) (c .before .before .before .before .before .args .allowance) in
     (ltb-true _ _ (and-left less (c .before .loop .going) (c .loop-test .taken)), and-right less (c .before .loop .going) (c .loop-test .taken))
 
 is-unfinished-requires : tie.Need-is-unfinished-requires Inv-loop μ-loop
@@ -41,13 +41,13 @@ is-unfinished-requires c κs = search needs
 
 loop-holds : tie.Need-loop-holds Inv-loop μ-loop
 unfolding after begun
-loop-holds c = (zero-le, refl, refl, c .is-unfinished .ensures, λ going. c .before .before .pre (sym (c .is-unfinished .ensures) ∙ going))
+loop-holds c = (zero-le, refl, refl, c .is-unfinished .ensures, λ going. c .before .before .before .pre (sym (c .is-unfinished .ensures) ∙ going))
 
 draw-requires : tie.Need-draw-requires Inv-loop μ-loop
 draw-requires c κs =
     let at = c .before .before .loop in
     let safe = at .inv .4 (turn (c .before) .1) in
-    (safe .crossing, safe .depth, rw (at .inv .1) (safe-within _ _ _ safe))
+    (safe .crossing, safe .depth, c .before .before .before .before .blends-of .ensures (safe .depth), rw (at .inv .1) (safe-within _ _ _ safe))
 
 next-requires : tie.Need-next-requires Inv-loop μ-loop
 next-requires c κs = c .before .before .before .before .before .loop .inv .4 (turn (c .before .before .before .before) .1) .pointers
@@ -68,11 +68,11 @@ loop-again c =
     let test = turn (c .before .before .before .before .before .before) in
     let drawn = c .before .before .before .before .draw in
     let next = c .before .next .ensures in
-    let s = c .before .before .before .before .before .before .before .before .before .before .args .setup in
+    let s = c .before .before .before .before .before .before .before .before .before .before .before .args .setup in
     let went = next ∙ ap (λ (inside : Bool). moved (s .travel) (penWith (withInside inside (at .pen .drawing)) (at .pen))) (drawn .ensures .0) in
     let u : Run = record { pen = at .pen; memory = at .memory; done = at .done } in (
       omega (arith, test .0),
-      drawn .kept .1 .0 ∙ at .inv .1,
+      drawn .kept .1 .1 .0 ∙ at .inv .1,
       after-on _ _ _ u (at .inv .2) (sym (at .inv .3) ∙ test .1) ∙ λ i. record { pen = sym went i; memory = sym (drawn .ensures .1) i; done = at .done + 1 },
       c .is-unfinished2 .ensures,
       λ more. rw next (safe-moved _ _ _ (safe-with _ _ _ _ (at .inv .4 (test .1)))),
@@ -85,7 +85,7 @@ returns : tie.Need-returns Inv-loop μ-loop
 returns c =
     let at = c .before .loop in
     let u : Run = record { pen = at .pen; memory = at .memory; done = at .done } in
-    let stop = (λ i. ltb (at .done) (c .before .before .before .before .args .allowance) && sym (at .inv .3) i) ∙ c .loop-test .left in
+    let stop = (λ i. ltb (at .done) (c .before .before .before .before .before .args .allowance) && sym (at .inv .3) i) ∙ c .loop-test .left in
     parts _ u (after-stop _ _ _ _ u (at .inv .2) (at .inv .0) stop)
 
 pub run-spec : {M : Type 1} → statement M
@@ -94,6 +94,7 @@ run-spec =
     (tie.spec
     Inv-loop
     μ-loop
+    (λ c κs. search needs)
     is-unfinished-requires
     loop-holds
     draw-requires

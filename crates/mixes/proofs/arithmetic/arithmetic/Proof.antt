@@ -1,54 +1,52 @@
--- `mixes::arithmetic::arithmetic` meets its contract: the calls follow the definition, and with all bits enabled gathering and scattering change nothing.
-use mathlib.Core.Path.{sym}
+-- `mixes::arithmetic::arithmetic` meets its contract: each arm is its code's place in the list of the mixes, worked on the enabled bits where they stand.
 use borrow.Author.Needs.{needs}
-use Rattle.mixes.specs.Mixes.{arithmetic}
-use Rattle.mixes.proofs.Binary.{byte-lt}
-use Rattle.mixes.proofs.Gathered.{gathered-lt}
-use Rattle.mixes.proofs.ArithmeticMixes.{arithmetic-full}
+use Rattle.mixes.specs.Mixes.{worked, arithmetic}
+use Rattle.mixes.proofs.Codes.{past}
+use Rattle.mixes.proofs.ArithmeticMixes.{arithmetic-past, greater-standing, lesser-standing, difference-standing}
 use Rattle.mixes.proofs.arithmetic.arithmetic.Statement.{statement}
 use Rattle.mixes.proofs.arithmetic.arithmetic.Tie as tie
 
-work-requires : tie.Need-work-requires
-work-requires c κs = let given = c .before .before .pre in (given .1, byte-lt (given .0 .bits) (given .2), byte-lt (given .0 .bits) (given .3))
-
 returns : tie.Need-returns
-returns c =
-    let given = c .before .before .before .pre in
-    rw (c .work .ensures, c .before .if1 .taken, given .0 .ones) (sym (arithmetic-full _ _ (given .2) (given .3)))
-
-gather-requires : tie.Need-gather-requires
-gather-requires c κs = search needs
-
-gather-requires-2 : tie.Need-gather-requires-2
-gather-requires-2 c κs = search needs
-
-gather-requires-3 : tie.Need-gather-requires-3
-gather-requires-3 c κs = search needs
-
-work-requires-2 : tie.Need-work-requires-2
-work-requires-2 c κs =
-    let given = c .before .before .before .before .before .pre in
-    rw (c .before .gather2 .ensures, c .gather3 .ensures)
-    (given .1, byte-lt (given .0 .bits) (gathered-lt _ _ _), byte-lt (given .0 .bits) (gathered-lt _ _ _))
-
-scatter-requires : tie.Need-scatter-requires
-scatter-requires c κs = search needs
+unfolding worked arithmetic
+returns c = rw (c .greater .ensures, c .before .match .keys1) (greater-standing _ _ (c .before .before .pre .0 .planes) _ _)
 
 returns-2 : tie.Need-returns-2
-unfolding arithmetic
-returns-2 c =
-    let third = c .before .before in
-    rw (c .scatter .ensures, c .before .work2 .ensures, third .gather3 .ensures, third .before .gather2 .ensures, third .before .before .gather .ensures)
+unfolding worked arithmetic
+returns-2 c = rw (c .lesser .ensures, c .before .match .keys2) (lesser-standing _ _ (c .before .before .pre .0 .planes) _ _)
+
+returns-3 : tie.Need-returns-3
+unfolding worked arithmetic
+returns-3 c = rw (c .held-sum .ensures, c .before .match .keys3)
+
+returns-4 : tie.Need-returns-4
+unfolding worked arithmetic
+returns-4 c = rw (c .difference .ensures, c .before .match .keys4) (difference-standing _ _ (c .before .before .pre .0 .planes) _ _)
+
+returns-5 : tie.Need-returns-5
+unfolding worked arithmetic
+returns-5 c = rw (c .difference2 .ensures, c .before .match .keys5) (difference-standing _ _ (c .before .before .pre .0 .planes) _ _)
+
+returns-6 : tie.Need-returns-6
+unfolding worked arithmetic
+returns-6 c = rw (c .average .ensures, c .before .match .keys6)
+
+returns-7 : tie.Need-returns-7
+returns-7 c = arithmetic-past _ _ _ _ _ (past 16 6 _ (c .before .pre .1) (c .match .rest))
 
 pub arithmetic-spec : {M : Type 1} → statement M
 arithmetic-spec =
     tie.close
     (tie.spec
-    work-requires
+    (λ c κs. search needs)
+    (λ c κs. search needs)
+    (λ c κs. search needs)
+    (λ c κs. search needs)
+    (λ c κs. search needs)
+    (λ c κs. search needs)
     returns
-    gather-requires
-    gather-requires-2
-    gather-requires-3
-    work-requires-2
-    scatter-requires
-    returns-2)
+    returns-2
+    returns-3
+    returns-4
+    returns-5
+    returns-6
+    returns-7)

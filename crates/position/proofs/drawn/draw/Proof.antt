@@ -26,7 +26,7 @@ write-requires c κs = let look = c .before .before .before .before in
     let on = open-inside _ (look .before .before .before .args .memory .now) _ (free .0) in
     let pre = look .before .before .before .pre in
     rw (look .look .ensures .target (free .0) (free .1) .cell)
-    (pre .1, cell-in-byte _ _ _ _, cell-in-memory _ _ _ _ (pre .2 .destination (on .0) (on .1)))
+    (pre .1, pre .2, cell-in-byte _ _ _ _, cell-in-memory _ _ _ _ (pre .3 .destination (on .0) (on .1)))
 
 returns : tie.Need-returns
 returns c =

@@ -8,10 +8,10 @@ use Rattle.position.proofs.write.write.Statement.{statement}
 use Rattle.position.proofs.write.write.Tie as tie
 
 mixed-pixel-requires : tie.Need-mixed-pixel-requires
-mixed-pixel-requires c κs = c .before .pre .0
+mixed-pixel-requires c κs = (c .before .pre .0, c .before .pre .1)
 
 store-requires : tie.Need-store-requires
-store-requires c κs = (c .before .before .before .before .pre .1, c .before .before .before .before .pre .2)
+store-requires c κs = (c .before .before .before .before .pre .2, c .before .before .before .before .pre .3)
 
 returns : tie.Need-returns
 unfolding cellAt withPixel drawn
