@@ -1,7 +1,7 @@
 -- `mixes::arithmetic::average` meets its contract: what is made of the half and what is left of the number make the whole, and a turn takes one bit.
 use mathlib.Core.Logic.{⊎-elim}
 use mathlib.Core.Path.{_≡_}
-use Prim.Native.Nat.{_+_, _*_, _/_, _^_, _<_}
+use Prim.Native.Nat.{ℕ, _+_, _*_, _/_, _^_, _<_}
 use native.Mathlib.Omega.{arith}
 use lib.Dec.{ltb}
 use lib.Pow.{pow-mono}
@@ -20,15 +20,17 @@ Inv-loop depth s d total enabled₀ rest₀ place₀ below₀ half₀ enabled re
 abbrev μ-loop : tie.MeasureT-loop
 μ-loop depth s d total enabled₀ rest₀ place₀ below₀ half₀ enabled rest place below half = enabled
 
--- the whole is a pixel
-whole-lt : (c : tie.Start Inv-loop μ-loop) → let a = c .args in laidIn (a .depth) ((numberIn (a .depth) (a .s) + numberIn (a .depth) (a .d)) / 2) < 256
+-- what the loop builds is a pixel
+abbrev whole : tie.Start Inv-loop μ-loop → ℕ
+whole c = let a = c .args in laidIn (a .depth) ((numberIn (a .depth) (a .s) + numberIn (a .depth) (a .d)) / 2)
+
+whole-lt : (c : tie.Start Inv-loop μ-loop) → whole c < 256
 whole-lt c = byte-lt (c .pre .bits) (scattered-lt _ _ _)
 
 -- the mask has no bit left after the loop
 ended : (c : tie.After-loop Inv-loop μ-loop) → let loop = c .before .loop in
-    let a = c .before .before .before .args in
-    loop .half + loop .below * (c .before .before .sum .result / 2 ^ a .depth .bits)
-    ≡ laidIn (a .depth) ((numberIn (a .depth) (a .s) + numberIn (a .depth) (a .d)) / 2)
+    let start = c .before .before .before in
+    loop .half + loop .below * (c .before .before .sum .result / 2 ^ start .args .depth .bits) ≡ whole start
 ended c =
     let sum = c .before .before in
     let none : c .before .loop .enabled ≡ 0 = omega arith in
