@@ -11,11 +11,8 @@ use Rattle.moves.specs.declared.Turn.{Turn}
 use Rattle.moves.specs.declared.Turn.the-variants.{Stay, Forth, Back}
 use Rattle.moves.specs.Turns.{opposite, turnedBy, circledBy}
 use Rattle.moves.specs.Decoded.{signOf}
+pub use Rattle.moves.specs.Inner.{OnCircle}
 use Rattle.moves.proofs.TurnLaws.{repeated, turned-none, turned-add, turned-return}
-
--- a place on the destination's circle, from -2,048 to 6,143
-abbrev pub OnCircle : ℤ → Type 0
-OnCircle z = circle 2048 8192 z ≡ z
 
 pub circled-on : (t : Turn) (k : ℕ) (z : ℤ) → OnCircle z → OnCircle (circledBy t k z)
 unfolding circledBy

@@ -2,6 +2,7 @@ pub mod Directions
 pub mod TurnLaws
 pub mod CircledLaws
 pub mod BlockLaws
+pub mod ColumnLaws
 pub mod Choices
 pub mod Counters
 pub mod Kept

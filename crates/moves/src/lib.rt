@@ -6,10 +6,10 @@ use pixels::Map;
 
 pub mod decoded;
 pub mod passage;
-mod pens;
+pub mod pens;
 pub mod steps;
 mod turns;
-mod ways;
+pub mod ways;
 
 // One pointer's part of a step.
 pub enum Turn {

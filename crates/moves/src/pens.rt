@@ -4,7 +4,7 @@ ghost use Prim.Native.Nat.{_≤_};
 ghost use Rattle.numbers.specs.Choose.{choose};
 ghost use Rattle.moves.specs.Turns as turned;
 ghost use Rattle.moves.specs.Moves as defined;
-ghost use Rattle.moves.specs.Inner.{pointersInside, destinationStepped};
+ghost use Rattle.moves.specs.Inner.{pointersInside, destinationStepped, columnsPassed};
 use crate::Course;
 use crate::Pen;
 use crate::Travel;
@@ -177,6 +177,61 @@ pub(crate) fn pass_column(travel: Travel, drawing: Drawing, pen: Pen) -> Pen
     }
 }
 
+// So many steps of a pointer in a map that ends at `last`, where the map is used.
+fn turn_used_by(used: bool, turn: Turn, count: u16, last: u16, x: u16) -> u16
+    requires { ⌜ (used ≡ true → x ≤ last) ⌝ }
+    ensures { λ r. ⌜ r ≡ choose used (turned.turnedBy turn count last x) x ⌝ }
+{
+    if used {
+        turn_by(turn, count, last, x)
+    } else {
+        x
+    }
+}
+
+// The pen so many columns further in its row.
+pub fn pass_columns(travel: Travel, count: u16, drawing: Drawing, pen: Pen) -> Pen
+    requires { ⌜ pointersInside travel pen ≡ true ⌝ }
+    ensures { λ r. ⌜ r ≡ columnsPassed travel count drawing pen ⌝ }
+{
+    let course = travel.course;
+    let across = course.x;
+    let source = Point {
+        x: turn_used_by(
+            travel.source.used,
+            across,
+            count,
+            travel.source.map.width,
+            pen.pointers.source.x,
+        ),
+        y: pen.pointers.source.y,
+    };
+    let pattern = Point {
+        x: turn_used_by(
+            travel.pattern.used,
+            across,
+            count,
+            travel.pattern.map.width,
+            pen.pointers.pattern.x,
+        ),
+        y: pen.pointers.pattern.y,
+    };
+    let destination = Spot {
+        x: circle_by(across, count, pen.pointers.destination.x),
+        y: pen.pointers.destination.y,
+    };
+    let pointers = Pointers {
+        source,
+        pattern,
+        destination,
+    };
+    Pen {
+        pointers,
+        e: pen.e,
+        drawing,
+    }
+}
+
 // The pen with another drawing in hand.
 pub(crate) fn pen_with(drawing: Drawing, pen: Pen) -> Pen
     ensures { λ r. ⌜ r ≡ defined.penWith drawing pen ⌝ }
@@ -238,7 +293,7 @@ fn return_by(travel: Travel, x: i16) -> i16
 }
 
 // The pen after a row.
-pub(crate) fn pass_row(travel: Travel, drawing: Drawing, pen: Pen) -> Pen
+pub fn pass_row(travel: Travel, drawing: Drawing, pen: Pen) -> Pen
     requires { ⌜ pointersInside travel pen ≡ true ⌝ }
     ensures { λ r. ⌜ r ≡ defined.rowPassed travel drawing pen ⌝ }
 {

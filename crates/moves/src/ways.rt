@@ -135,7 +135,7 @@ fn code_way(travel: Travel, count: u8, code: u16, done: u16, pen: Pen) -> Way
 }
 
 // The drawing after a row: the next row, or nothing after the last.
-fn row_after(row: u16, last: u16) -> Drawing
+pub fn row_after(row: u16, last: u16) -> Drawing
     ensures { λ r. ⌜ r ≡ choose (ltb row last) (Drawing.Block false 0 (row + 1)) (Drawing.Nothing false) ⌝ }
 {
     if row < last {

@@ -103,12 +103,29 @@ module _ (s n v x : ℕ) where
       sym (field-shr t m (s + n) (withField s n v x) h) ∙ ap (field (t - (s + n)) m) with-field-above
       ∙ field-shr t m (s + n) x h
 
+  -- a field within the one that is put
+  field-with-within : (t m : ℕ) → s ≤ t → t + m ≤ s + n → field t m (withField s n v x) ≡ field (t - s) m (v % 2 ^ n)
+  field-with-within t m h h' =
+      sym (field-shr t m s (withField s n v x) h)
+      ∙ ap (field (t - s) m) with-field-shr
+      ∙ sym (field-mod (t - s) m n _ (omega arith))
+      ∙ ap (field (t - s) m) (low (x / 2 ^ (s + n)) n (mod-lt v (pow-pos n)))
+
   -- a number of k digits stays one
   pub with-field-lt : (k : ℕ) → s + n ≤ k → x < 2 ^ k → withField s n v x < 2 ^ k
   with-field-lt k h l =
       let e : k - (s + n) + (s + n) ≡ k = omega arith in
       let top : x / 2 ^ (s + n) < 2 ^ (k - (s + n)) = shr-lt (k - (s + n)) (s + n) (rw e l) in
       rw e at (lt-of-shr {x = withField s n v x} (k - (s + n)) (s + n) (rw with-field-above top))
+
+-- a field within a field of another number that is put
+pub field-with-field : (s n x y t m : ℕ) → s ≤ t → t + m ≤ s + n → field t m (withField s n (field s n y) x) ≡ field t m y
+unfolding field
+field-with-field s n x y t m h h' =
+    field-with-within s n (field s n y) x t m h h'
+    ∙ ap (field (t - s) m) (mod-eq-of-lt (field-lt s n y))
+    ∙ field-mod (t - s) m n (y / 2 ^ s) (omega arith)
+    ∙ field-shr t m s y h
 
 -- putting a field's own digits into it changes nothing
 pub with-field-self : (s n x : ℕ) → withField s n (field s n x) x ≡ x
@@ -131,7 +148,7 @@ differ-twice (suc zero) (suc zero) hx hy = refl
 differ-twice (suc zero) (suc (suc y)) hx hy = absurd (omega (arith, hy))
 differ-twice (suc (suc x)) y hx hy = absurd (omega (arith, hx))
 
-xor-twice : (a b : ℕ) → bitXor a (bitXor a b) ≡ b
+pub xor-twice : (a b : ℕ) → bitXor a (bitXor a b) ≡ b
 xor-twice = bin-ind (λ (n : ℕ). (b : ℕ) → bitXor n (bitXor n b) ≡ b) (λ b. refl) step
   where
     step : (n : ℕ) → ((b : ℕ) → bitXor (n / 2) (bitXor (n / 2) b) ≡ b) → (b : ℕ) → bitXor n (bitXor n b) ≡ b

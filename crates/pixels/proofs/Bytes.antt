@@ -17,11 +17,11 @@ use Rattle.pixels.specs.Pixels.{byteAt, pixelAt}
 use Rattle.pixels.proofs.Maps.{by-size}
 
 -- the field of a byte at this many bits from its lowest or its highest bit
-abbrev fieldFrom : Bool → (bits before b : ℕ) → ℕ
+abbrev pub fieldFrom : Bool → (bits before b : ℕ) → ℕ
 fieldFrom t bits before b = field (choose t (8 - bits - before) before) bits b
 
 -- what holds of the fields of two bytes at all multiples of the size
-abbrev Alike : Bool → (bits b b' : ℕ) → Type 0
+abbrev pub Alike : Bool → (bits b b' : ℕ) → Type 0
 Alike t bits b b' = (i : ℕ) → i * bits < 8 → fieldFrom t bits (i * bits) b ≡ fieldFrom t bits (i * bits) b'
 
 -- counted from the other end they are the same fields, the last first
@@ -34,7 +34,7 @@ module _ (b b' bits count : ℕ) (full : count * bits ≡ 8) (inside : (i : ℕ)
   byte-of-fields : b < 256 → b' < 256 → (t : Bool) → Alike t bits b b' → b ≡ b'
   byte-of-fields h h' t same = fields-told bits count b b' (rw full h) (rw full h') (same-fields t same)
 
-byte-told : (t : Bool) (b b' : ℕ) → b < 256 → b' < 256 → (format : ℕ) → Alike t (bitsOf format) b b' → b ≡ b'
+pub byte-told : (t : Bool) (b b' : ℕ) → b < 256 → b' < 256 → (format : ℕ) → Alike t (bitsOf format) b b' → b ≡ b'
 unfolding bitsOf
 byte-told t b b' h h' =
     by-size (λ (k : ℕ). Alike t (2 ^ k) b b' → b ≡ b')
@@ -55,7 +55,7 @@ numbered m a n =
     ap (λ (k : ℕ). fieldFrom (isMotorola (a .format)) bits (k * bits % 8) (getD m (a .base + k * bits / 8) 0)) (div-add-mod' n (a .width + 1))
 
 -- a byte is full of pixels
-full : (format : ℕ) → 8 / bitsOf format * bitsOf format ≡ 8
+pub full : (format : ℕ) → 8 / bitsOf format * bitsOf format ≡ 8
 unfolding bitsOf
 full = by-size (λ (k : ℕ). 8 / 2 ^ k * 2 ^ k ≡ 8) (omega arith) (omega arith) (omega arith) (omega arith)
 

@@ -13,6 +13,7 @@ use Rattle.numbers.proofs.Choices.{choose-either}
 use Rattle.numbers.proofs.Order.{lt-or-le}
 use Rattle.pixels.specs.declared.Map.{Map}
 use Rattle.pixels.specs.Maps.{bitsOf, startOf, placeOf, isMotorola, shiftOf, neededOf}
+use Rattle.pixels.specs.Inner.{shiftAt}
 
 -- ---- the four sizes
 
@@ -67,18 +68,24 @@ place-lt map x y h v =
     omega (arith, mul-le-mul-right (bitsOf (map .format)) (index-lt map x y h v), pow-pos (map .format % 4))
 
 -- a pixel ends within the byte in which it starts
+pub number-ends : (format n : ℕ) → n * bitsOf format % 8 + bitsOf format ≤ 8
+unfolding bitsOf
+number-ends format n =
+    by-size (λ (k : ℕ). n * 2 ^ k % 8 + 2 ^ k ≤ 8) (omega arith) (omega arith) (omega arith) (omega arith) format
+
 pub ends-in-byte : (map : Map) (x y : ℕ) → startOf map x y % 8 + bitsOf (map .format) ≤ 8
-unfolding bitsOf startOf
-ends-in-byte map x y =
-    by-size (λ (k : ℕ). index map x y * 2 ^ k % 8 + 2 ^ k ≤ 8) (omega arith) (omega arith) (omega arith) (omega arith)
-    (map .format)
+unfolding startOf
+ends-in-byte map x y = number-ends (map .format) (index map x y)
 
 -- so it lies within one byte, in either order
+pub shift-in-byte : (format n : ℕ) → shiftAt format n + bitsOf format ≤ 8
+shift-in-byte format n =
+    let ends = number-ends format n in
+    choose-either (λ (shift : ℕ). shift + bitsOf format ≤ 8) (isMotorola format) (omega arith) (omega arith)
+
 pub in-byte : (map : Map) (x y : ℕ) → shiftOf map x y + bitsOf (map .format) ≤ 8
-unfolding shiftOf
-in-byte map x y =
-    let ends = ends-in-byte map x y in
-    choose-either (λ (shift : ℕ). shift + bitsOf (map .format) ≤ 8) (isMotorola (map .format)) (omega arith) (omega arith)
+unfolding startOf shiftOf
+in-byte map x y = shift-in-byte (map .format) (index map x y)
 
 -- turned over, a pixel's number counts from its byte's other end
 turned-over : (format n : ℕ) → n < 2 ^ 32 → bitXor n (2 ^ 32 - 1) * bitsOf format % 8 ≡ 8 - bitsOf format - n * bitsOf format % 8
@@ -109,16 +116,13 @@ turned-over format n fits =
         format
 
 -- so its shift is told by its number, or by that turned over
-pub number-turned : (map : Map) (x y : ℕ) → index map x y < 2 ^ 32
-    → bitXor (index map x y) (choose (isMotorola (map .format)) (2 ^ 32 - 1) 0) * bitsOf (map .format) % 8 ≡ shiftOf map x y
-unfolding startOf shiftOf
-number-turned map x y fits = by (isMotorola (map .format))
+pub number-turned : (format n : ℕ) → n < 2 ^ 32
+    → bitXor n (choose (isMotorola format) (2 ^ 32 - 1) 0) * bitsOf format % 8 ≡ shiftAt format n
+number-turned format n fits = by (isMotorola format)
   where
-    by : (t : Bool)
-        → bitXor (index map x y) (choose t (2 ^ 32 - 1) 0) * bitsOf (map .format) % 8
-        ≡ choose t (8 - bitsOf (map .format) - index map x y * bitsOf (map .format) % 8) (index map x y * bitsOf (map .format) % 8)
-    by true = turned-over (map .format) (index map x y) fits
-    by false = rw (xor-zero-r (index map x y))
+    by : (t : Bool) → bitXor n (choose t (2 ^ 32 - 1) 0) * bitsOf format % 8 ≡ choose t (8 - bitsOf format - n * bitsOf format % 8) (n * bitsOf format % 8)
+    by true = turned-over format n fits
+    by false = rw (xor-zero-r n)
 
 -- a pixel ends at the start of any later one, or before it
 start-before : (map : Map) (x y x' y' : ℕ) → index map x y < index map x' y'

@@ -7,7 +7,7 @@ ghost use Rattle.numbers.specs.Choose.{choose};
 ghost use Rattle.numbers.specs.Fields.{field, withField};
 ghost use Rattle.pixels.specs.Maps.{bitsOf, placeOf, isMotorola, shiftOf, neededOf};
 ghost use Rattle.pixels.specs.Pixels.{pixelAt, withPixel};
-ghost use Rattle.pixels.specs.Inner.{cellAt};
+ghost use Rattle.pixels.specs.Inner.{placeAt, shiftAt, cellAt};
 
 // A pixel map: where it starts, one less than its width and height in pixels, and its format code.
 pub struct Map {
@@ -41,18 +41,25 @@ pub fn needed(map: Map) -> u64
     (row * rows * (bits_of(map.format) as u64) + 7) / 8
 }
 
-// How many pixels of the map come before this one.
-fn index(map: Map, x: u16, y: u16) -> u32
+// How many pixels of the map come before this one: its number.
+pub fn index(map: Map, x: u16, y: u16) -> u32
     ensures { λ r. ⌜ r ≡ y * (map .width + 1) + x ⌝ }
 {
     (y as u32) * ((map.width as u32) + 1) + (x as u32)
+}
+
+// The index of the byte in which pixel number n of a map from `base` on lies.
+pub fn place_at(format: u8, base: u32, n: u32) -> usize
+    ensures { λ r. ⌜ r ≡ placeAt format base n ⌝ }
+{
+    (base as usize) + ((n >> (3 - format % 4)) as usize)
 }
 
 // The index of the byte in which the pixel lies, which may be beyond the memory.
 pub fn place(map: Map, x: u16, y: u16) -> usize
     ensures { λ r. ⌜ r ≡ placeOf map x y ⌝ }
 {
-    (map.base as usize) + ((index(map, x, y) >> (3 - map.format % 4)) as usize)
+    place_at(map.format, map.base, index(map, x, y))
 }
 
 // What turns over the number of a pixel within its byte: all bits in Motorola order, and none in Intel order.
@@ -62,12 +69,19 @@ fn mirror(format: u8) -> u32
     if format / 8 % 2 == 1 { 0xFFFF_FFFF } else { 0 }
 }
 
+// How far above its byte's lowest bit pixel number n of a map lies.
+pub fn shift_at(format: u8, n: u32) -> u32
+    ensures { λ r. ⌜ r ≡ shiftAt format n ⌝ }
+{
+    let turned = mirror(format);
+    ((n ^ turned) << (format % 4)) & 7
+}
+
 // How far above its byte's lowest bit the pixel lies.
 fn shift(map: Map, x: u16, y: u16) -> u32
     ensures { λ r. ⌜ r ≡ shiftOf map x y ⌝ }
 {
-    let turned = mirror(map.format);
-    ((index(map, x, y) ^ turned) << (map.format % 4)) & 7
+    shift_at(map.format, index(map, x, y))
 }
 
 // The largest number of so many bits.

@@ -82,7 +82,7 @@ pattern-unread s memory pen crossing unused = rw (unfilled s memory pen crossing
 -- ---- a safe position
 
 -- a pixel of a map that ends within the memory lies in it
-held-within : (size : ℕ) (map : Map) (x y : ℕ) → x ≤ map .width → y ≤ map .height → endHolds size map ≡ true → placeOf map x y < size
+pub held-within : (size : ℕ) (map : Map) (x y : ℕ) → x ≤ map .width → y ≤ map .height → endHolds size map ≡ true → placeOf map x y < size
 unfolding endHolds
 held-within size map x y h v e = omega (arith, place-lt map x y h v, leb-true (map .base + neededOf map) size e)
 

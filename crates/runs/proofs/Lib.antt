@@ -1,2 +1,5 @@
 pub mod AfterLaws
 pub mod RunLaws
+pub mod StretchLaws
+pub mod PlaceLaws
+pub mod RowLaws

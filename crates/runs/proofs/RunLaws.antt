@@ -3,7 +3,7 @@ use mathlib.Core.Path.{_≡_, refl, sym, ap, _∙_}
 use mathlib.Core.Bool.{Bool, true, false, false≢true}
 use mathlib.Core.List.{List, _++_}
 use mathlib.Core.Logic.{_⊎_, inl, inr, ⊎-elim}
-use Prim.Native.Nat.{ℕ, zero, suc, _+_, _≤_, min}
+use Prim.Native.Nat.{ℕ, zero, suc, _+_, _-_, _≤_, _<_, min}
 use native.Mathlib.Omega.{arith}
 use lib.ListN.{length, getD}
 use Rattle.numbers.proofs.Choices.{and-left}
@@ -149,6 +149,19 @@ run-add s pen memory a b =
     let whole = after-add s a b (begun pen memory) ∙ ap (after s b) (sym (since-begun u)) ∙ since-after s b (u .done) (begun (u .pen) (u .memory)) in
     record { pen = ap (λ (v : Run). v .pen) whole; memory = ap (λ (v : Run). v .memory) whole; done = ap (λ (v : Run). v .done) whole }
 
+-- more positions, from where the run was
+pub after-more : (s : Setup) (j k : ℕ) (t : Run) (pen pen' : Pen) (memory memory' : List ℕ)
+    → after s j t ≡ record { pen = pen; memory = memory; done = j }
+    → after s k (begun pen memory) ≡ record { pen = pen'; memory = memory'; done = k }
+    → after s (j + k) t ≡ record { pen = pen'; memory = memory'; done = j + k }
+unfolding since
+after-more s j k t pen pen' memory memory' e e' =
+    let u : Run = record { pen = pen; memory = memory; done = j } in
+    after-add s j k t
+    ∙ ap (after s k) (e ∙ sym (since-begun u))
+    ∙ since-after s k j (begun pen memory)
+    ∙ ap (since j) e'
+
 -- ---- the positions left
 
 idle-left : (s : Setup) (d : Drawing) → unfinished d ≡ false → leftOf (s .travel .figure) d ≡ 0
@@ -158,7 +171,7 @@ idle-left s (Codes count code done) e = absurd (false≢true (sym e))
 idle-left s (Block inside column row) e = absurd (false≢true (sym e))
 
 -- no run does more positions than it may, and one that does fewer ends idle
-reached : (s : Setup) (pen : Pen) (memory : List ℕ) (n : ℕ)
+pub reached : (s : Setup) (pen : Pen) (memory : List ℕ) (n : ℕ)
     → let u : Run = after s n (begun pen memory) in
     (u .done ≤ n) × ((u .done ≡ n) ⊎ (unfinished (u .pen .drawing) ≡ false))
 unfolding after begun positioned
@@ -189,6 +202,15 @@ after-done s pen memory (suc n) =
     let more : u .done + 1 ≡ suc n = omega arith in ap (λ k. after s k (begun pen memory)) more ∙ stepped-on s u going)
     (λ idle. absurd (false≢true (sym idle ∙ going)))
     (reached s pen memory n .1))
+
+-- where one is left and one is allowed, some are done
+pub done-some : (s : Setup) (pen : Pen) (memory : List ℕ) (n : ℕ) → unfinished (pen .drawing) ≡ true → 0 < n → 0 < after s n (begun pen memory) .done
+unfolding after begun positioned
+done-some s pen memory n going some =
+    let one : after s 1 (begun pen memory) .done ≡ 1 = ap (λ (t : Run). t .done) (stepped-on s (begun pen memory) going) in
+    let all : 1 + (n - 1) ≡ n = omega arith in
+    let whole = rw all at (run-add s pen memory 1 (n - 1) .done) in
+    omega arith
 
 module _ (s : Setup)
     (course : s .travel .course ≡ courseOf (s .travel .figure .operations)) (flow : s .brush .flow ≡ flowOf (s .travel .figure .operations)) where

@@ -6,11 +6,15 @@ ghost use Rattle.parts.specs.Drawings.{unfinished};
 ghost use Rattle.position.specs.Inner.{Safe};
 ghost use Rattle.runs.specs.Runs.{begun, after};
 use moves::Pen;
-use moves::passage::next;
 use parts::drawing::is_unfinished;
 use places::Setup;
-use position::drawn::draw;
+use plans::plan_of;
 use position::inks::blends_of;
+use stretches::turn;
+
+mod plans;
+mod singly;
+mod stretches;
 
 // What a run leaves beside memory: the pen, and the positions done.
 pub struct Ran {
@@ -18,7 +22,7 @@ pub struct Ran {
     pub done: u32,
 }
 
-// Does the next positions of the drawing in hand, at most as many as the allowance. A drawing in hand is safe: so is every
+// Does the next positions of the drawing in hand, at most as many as the allowance, by turns. A drawing in hand is safe: so is every
 // position of it, and none is asked whether it lies in the memory.
 pub fn run(setup: Setup, from: Pen, memory: &mut [u8], allowance: u32) -> Ran
     requires { ⌜ (unfinished (from .drawing) ≡ true → Safe setup (length (now memory)) from) ⌝ }
@@ -27,14 +31,15 @@ pub fn run(setup: Setup, from: Pen, memory: &mut [u8], allowance: u32) -> Ran
         × (now (memory .exit) ≡ after setup allowance (begun from (now (memory .entry))) .memory) ⌝ }
 {
     let blends = blends_of(setup.brush);
+    let first = from.drawing;
+    let plan = plan_of(setup, blends, first);
     let mut pen = from;
     let mut done: u32 = 0;
-    let first = from.drawing;
     let mut going = is_unfinished(first);
     while (done < allowance) & going {
-        let inside = draw(setup, blends, memory, pen);
-        pen = next(setup.travel, inside, pen);
-        done += 1;
+        let turned = turn(setup, blends, plan, memory, pen, allowance - done);
+        pen = turned.pen;
+        done += turned.done;
         let drawing = pen.drawing;
         going = is_unfinished(drawing);
     }
