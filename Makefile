@@ -6,6 +6,7 @@ COUNT ?= 120000
 SEED ?= 1
 DRAWINGS ?= 10000
 IMAGES ?= 20000
+STRETCHES ?= 8000
 OUTLINES ?= 20000
 INPUT ?= crates/bench/stdin
 
@@ -20,7 +21,7 @@ test:
 
 compare: library
 	@cargo run --offline --quiet --release --manifest-path compare/Cargo.toml --bin compare -- \
-		seed=$(SEED) images=$(IMAGES) drawings=$(DRAWINGS) outlines=$(OUTLINES) sequences=$(COUNT)
+		seed=$(SEED) images=$(IMAGES) drawings=$(DRAWINGS) stretches=$(STRETCHES) outlines=$(OUTLINES) sequences=$(COUNT)
 
 speed: library
 	@cargo run --offline --quiet --profile speed --manifest-path compare/Cargo.toml --bin speed

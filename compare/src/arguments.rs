@@ -7,6 +7,7 @@ pub struct Arguments {
     pub leaves: u64,
     pub images: u64,
     pub drawings: u64,
+    pub stretches: u64,
     pub outlines: u64,
     pub sequences: u64,
     /// The number of the one sequence to repeat.
@@ -14,7 +15,7 @@ pub struct Arguments {
 }
 
 const USAGE: &str =
-    "usage: compare [seed=N] [leaves=N] [images=N] [drawings=N] [outlines=N] [sequences=N] [only=N]";
+    "usage: compare [seed=N] [leaves=N] [images=N] [drawings=N] [stretches=N] [outlines=N] [sequences=N] [only=N]";
 
 impl Arguments {
     /// The defaults, changed by the words.
@@ -24,6 +25,7 @@ impl Arguments {
             leaves: 1_000_000,
             images: 20_000,
             drawings: 10_000,
+            stretches: 8_000,
             outlines: 20_000,
             sequences: 120_000,
             only: None,
@@ -35,6 +37,7 @@ impl Arguments {
                 Some(("leaves", text)) => arguments.leaves = number(text)?,
                 Some(("images", text)) => arguments.images = number(text)?,
                 Some(("drawings", text)) => arguments.drawings = number(text)?,
+                Some(("stretches", text)) => arguments.stretches = number(text)?,
                 Some(("outlines", text)) => arguments.outlines = number(text)?,
                 Some(("sequences", text)) => arguments.sequences = number(text)?,
                 Some(("only", text)) => arguments.only = Some(number(text)?),

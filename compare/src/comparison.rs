@@ -4,7 +4,7 @@ use crate::arguments::Arguments;
 use crate::others::Others;
 use crate::progress::Progress;
 use crate::random::Random;
-use crate::{drawings, images, mixes, outlines, panics, pixels, sequences};
+use crate::{drawings, images, mixes, outlines, panics, pixels, sequences, stretches};
 
 /// Compares all that is asked for, and prints what each part met; an error is the first difference.
 pub fn all(asked: &Arguments) -> Result<(), String> {
@@ -18,8 +18,8 @@ pub fn all(asked: &Arguments) -> Result<(), String> {
         return sequences::one(seed, number, &others, &mut counts, true);
     }
     println!(
-        "seed {seed}: {} images, {} drawings, {} outlines, {} sequences",
-        asked.images, asked.drawings, asked.outlines, asked.sequences
+        "seed {seed}: {} images, {} drawings, {} stretches, {} outlines, {} sequences",
+        asked.images, asked.drawings, asked.stretches, asked.outlines, asked.sequences
     );
     let progress = Progress::new(parts_of(asked));
     std::thread::scope(|scope| {
@@ -39,6 +39,7 @@ fn parts_of(asked: &Arguments) -> usize {
     let others = [
         asked.images,
         asked.drawings,
+        asked.stretches,
         asked.outlines,
         asked.sequences,
     ];
@@ -77,6 +78,10 @@ fn parts(
     if asked.drawings > 0 {
         let steps = progress.steps("drawings", asked.drawings);
         progress.print(drawings::compare(&mut random(4), random(5), steps, others)?);
+    }
+    if asked.stretches > 0 {
+        let steps = progress.steps("stretches", asked.stretches);
+        progress.print(stretches::compare(&mut random(7), steps, others)?);
     }
     if asked.outlines > 0 {
         let steps = progress.steps("outlines", asked.outlines);

@@ -3,11 +3,13 @@
 pub mod arguments;
 pub mod comparison;
 pub mod fast;
+pub mod memories;
 pub mod panics;
 pub mod picture;
 pub mod random;
 pub mod random_drawings;
 pub mod speed;
+pub mod stretches;
 pub mod writes;
 
 mod between;
@@ -18,7 +20,6 @@ mod drawings;
 mod guarded;
 mod images;
 mod leaves;
-mod memories;
 mod mixes;
 mod orders;
 mod others;

@@ -10,6 +10,7 @@ pub type Point = (i64, i64);
 
 /// Formats of maps.
 pub const BITS_1: u32 = 0;
+pub const BITS_2: u32 = 1;
 pub const BITS_4: u32 = 2;
 pub const BITS_8: u32 = 3;
 

@@ -22,6 +22,11 @@ impl Loads {
         self.all += 1;
         self.inside += u64::from(pair.is_inside());
     }
+
+    /// How many there were.
+    pub fn all(&self) -> u64 {
+        self.all
+    }
 }
 
 /// What was met.

@@ -6,14 +6,16 @@ mod areas;
 mod board;
 mod counts;
 
+pub use board::Board;
+pub use counts::Loads;
+
 use crate::between::Between;
 use crate::others::Others;
 use crate::panics;
 use crate::progress::Steps;
 use crate::random::Random;
 use crate::random_drawings::{self, RandomDrawing, FUNCTIONS};
-use board::Board;
-use counts::{Counts, Loads};
+use counts::Counts;
 
 /// The most positions of a drawing that is cut at every one of them.
 const LONGEST_CUT: u32 = 64;

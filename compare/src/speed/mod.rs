@@ -1,5 +1,8 @@
-//! The proved library, the fast runner and the clear program, timed at the same work.
+//! The proved library, the fast runner and the clear program, timed at the same work, which is also done by hand.
 
+pub mod instructions;
 pub mod race;
-mod runners;
 pub mod workloads;
+
+mod limits;
+mod runners;

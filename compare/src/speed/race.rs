@@ -1,59 +1,77 @@
 //! Times a workload: best of several, the runners in turn.
 
 use super::runners::{Plain, Proved, Runner};
-use super::workloads::{Beside, Job, Workload};
+use super::workloads::{Job, Work};
 use std::hint::black_box;
 use std::time::{Duration, Instant};
 
 /// The turns, and how many of them the clear program takes part in.
-const TURNS: usize = 200;
+pub const TURNS: usize = 200;
 const CLEAR_TURNS: usize = 3;
 
-/// The best times of a workload.
+/// The best times of some work.
 pub struct Best {
     pub proved: Duration,
     pub fast: Duration,
     pub clear: Duration,
-    /// Setting or copying the bytes alone, and how many bytes those are.
-    pub beside: Option<(Duration, usize)>,
+    /// The work by hand.
+    pub limit: Duration,
     pub positions: u64,
+    pub drawings: u64,
 }
 
-/// One runner at the work: its best time so far, and its state and memory after the last turn.
-struct Lane<R> {
-    runner: R,
+/// A memory, and the best time of what worked on it.
+struct Track {
     memory: Vec<u8>,
     best: Duration,
+}
+
+impl Track {
+    fn new(work: &Work) -> Track {
+        Track {
+            memory: work.memory.clone(),
+            best: Duration::MAX,
+        }
+    }
+
+    /// Does something once, on the memory as it was at first.
+    fn turn<T>(&mut self, work: &Work, act: impl FnOnce(&mut [u8]) -> T) -> T {
+        self.memory.copy_from_slice(&work.memory);
+        let begun = Instant::now();
+        let answer = act(black_box(&mut self.memory));
+        self.best = self.best.min(begun.elapsed());
+        answer
+    }
+}
+
+/// One runner at the work: its state and positions after the last turn.
+struct Lane<R> {
+    runner: R,
+    track: Track,
     positions: u64,
 }
 
 impl<R: Runner> Lane<R> {
-    fn new(workload: &Workload) -> Lane<R> {
-        let first = workload.jobs[0].state.as_ref().expect("a first state");
+    fn new(work: &Work) -> Lane<R> {
+        let first = work.jobs[0].state.as_ref().expect("a first state");
         Lane {
             runner: R::at(first),
-            memory: workload.memory.clone(),
-            best: Duration::MAX,
+            track: Track::new(work),
             positions: 0,
         }
     }
 
-    /// Does the work once, on the memory as it was at first.
-    fn turn(&mut self, workload: &Workload) {
-        self.memory.copy_from_slice(&workload.memory);
-        let begun = Instant::now();
-        self.positions = work(
-            &mut self.runner,
-            &workload.jobs,
-            black_box(&mut self.memory),
-        );
-        self.best = self.best.min(begun.elapsed());
+    fn turn(&mut self, work: &Work) {
+        let runner = &mut self.runner;
+        self.positions = self
+            .track
+            .turn(work, |memory| draw(runner, &work.jobs, memory));
     }
 }
 
 /// Every drawing to its end: the positions.
 #[inline(never)]
-fn work<R: Runner>(runner: &mut R, jobs: &[Job], memory: &mut [u8]) -> u64 {
+fn draw<R: Runner>(runner: &mut R, jobs: &[Job], memory: &mut [u8]) -> u64 {
     let mut positions = 0;
     for job in jobs {
         if let Some(state) = &job.state {
@@ -69,55 +87,41 @@ fn work<R: Runner>(runner: &mut R, jobs: &[Job], memory: &mut [u8]) -> u64 {
     positions
 }
 
-/// The best times of all three; their memories, images and positions are the same.
-pub fn best(workload: &Workload) -> Best {
-    let mut proved: Lane<Proved> = Lane::new(workload);
-    let mut fast: Lane<Plain<true>> = Lane::new(workload);
-    let mut clear: Lane<Plain<false>> = Lane::new(workload);
-    let mut beside: Option<(Duration, usize)> = None;
-    for turn in 0..TURNS {
-        proved.turn(workload);
-        fast.turn(workload);
+/// The best times of all in so many turns; their memories are the same, and the runners' images and positions too.
+pub fn best(work: &Work, turns: usize) -> Best {
+    let mut proved: Lane<Proved> = Lane::new(work);
+    let mut fast: Lane<Plain<true>> = Lane::new(work);
+    let mut clear: Lane<Plain<false>> = Lane::new(work);
+    let mut limit = Track::new(work);
+    for turn in 0..turns {
+        proved.turn(work);
+        fast.turn(work);
         if turn < CLEAR_TURNS {
-            clear.turn(workload);
+            clear.turn(work);
         }
-        if let Some((time, bytes)) = bytes_alone(workload) {
-            let before = beside.map_or(time, |(before, _)| before);
-            beside = Some((time.min(before), bytes));
-        }
+        limit.turn(work, &work.limit);
     }
     assert_eq!(proved.positions, fast.positions);
     assert_eq!(proved.positions, clear.positions);
-    assert!(proved.memory == fast.memory && proved.memory == clear.memory);
-    assert!(proved.memory != workload.memory);
+    let memory = &proved.track.memory;
+    assert!(*memory == fast.track.memory, "the fast runner's bytes");
+    assert!(*memory == clear.track.memory, "the clear program's bytes");
+    assert!(*memory == limit.memory, "the bytes by hand");
+    assert!(*memory != work.memory, "bytes that change");
     assert_eq!(proved.runner.image(), fast.runner.image());
     assert_eq!(proved.runner.image(), clear.runner.image());
     Best {
-        proved: proved.best,
-        fast: fast.best,
-        clear: clear.best,
-        beside,
+        proved: proved.track.best,
+        fast: fast.track.best,
+        clear: clear.track.best,
+        limit: limit.best,
         positions: proved.positions,
+        drawings: work.jobs.len() as u64,
     }
 }
 
-/// The time of memset or memcpy, and the bytes.
-fn bytes_alone(workload: &Workload) -> Option<(Duration, usize)> {
-    let mut memory = workload.memory.clone();
-    let memory = black_box(&mut memory[..]);
-    let begun = Instant::now();
-    let bytes = match workload.beside {
-        Beside::Nothing | Beside::Times(_) => return None,
-        Beside::Set(bytes) => {
-            memory[..bytes].fill(black_box(0x5A));
-            bytes
-        }
-        Beside::Copy(bytes) => {
-            let (to, from) = memory.split_at_mut(bytes);
-            to.copy_from_slice(&from[..bytes]);
-            bytes
-        }
-    };
-    black_box(memory);
-    Some((begun.elapsed(), bytes))
+/// The proved library does the work once.
+pub fn proved_once(work: &Work) {
+    let mut proved: Lane<Proved> = Lane::new(work);
+    proved.turn(work);
 }

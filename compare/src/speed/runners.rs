@@ -17,13 +17,19 @@ impl State {
     pub fn after(size: u32, writes: &[Write]) -> State {
         let mut image = [0; IMAGE];
         assert_eq!(board::fresh(&mut image, size), 0);
-        let (mut record, refusal) = Coprocessor::fresh(size);
+        let (record, refusal) = Coprocessor::fresh(size);
         assert_eq!(refusal, 0);
+        State { image, record }.then(writes)
+    }
+
+    /// The state after some more writes.
+    pub fn then(&self, writes: &[Write]) -> State {
+        let mut state = self.clone();
         for (offset, length, value) in writes {
-            assert_eq!(board::write(&mut image, *offset, *length, *value), 0);
-            assert_eq!(record.write(*offset, *length, *value), 0);
+            let refusal = board::write(&mut state.image, *offset, *length, *value);
+            assert_eq!(refusal, 0);
+            assert_eq!(state.record.write(*offset, *length, *value), 0);
         }
-        let state = State { image, record };
         assert_eq!(image_of(&state.record), state.image);
         state
     }

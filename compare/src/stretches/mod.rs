@@ -1,0 +1,58 @@
+//! Blocks at the borders between stretches, many positions of a row at once, and positions one by one.
+//!
+//! No result tells which were taken; the rule that does is written down here, so that every kind is known to have been met.
+
+mod blocks;
+mod borders;
+mod counts;
+mod overlaps;
+mod phases;
+mod ways;
+
+pub mod cases;
+pub mod parts;
+pub mod plans;
+pub mod rule;
+pub mod taken;
+pub mod tally;
+
+use crate::drawings::Board;
+use crate::others::Others;
+use crate::panics;
+use crate::progress::Steps;
+use crate::random::Random;
+use counts::Counts;
+
+/// The blocks from which on every kind must have been met.
+const MANY: u64 = cases::ALL_RAGGED;
+
+/// One in so many blocks is not begun at its first position.
+const ELSEWHERE: u32 = 8;
+
+/// Compares a block in each step, of all families in turn.
+pub(crate) fn compare(
+    random: &mut Random,
+    steps: Steps,
+    others: &Others,
+) -> Result<Counts, String> {
+    let count = steps.asked;
+    let mut counts = Counts::default();
+    for number in steps {
+        let (family, plan) = cases::plan(random, number);
+        let drawing = plan.drawing(random);
+        let mut whole = || {
+            let mut begun = Board::begin(&drawing)?;
+            if random.once_in(ELSEWHERE) {
+                ways::put_elsewhere(random, &mut begun, &mut counts)?;
+            }
+            counts.note_start(family, &plan, &begun.pair.plain);
+            ways::all(random, &begun, others, &mut counts)
+        };
+        panics::caught(&mut whole)
+            .map_err(|difference| format!("{difference}\nin {plan:?}\n{drawing:?}"))?;
+    }
+    match counts.never_met().filter(|_| count >= MANY) {
+        Some(never) => Err(never),
+        None => Ok(counts),
+    }
+}
