@@ -66,9 +66,7 @@ fn rows_end_at_the_rows_end_the_allowance_and_the_maps_edge() {
 
     let right = block(BITS_8, (15, 1), (10, 2), FILL, &[]);
     let edge = Piece::Stretch(5, Cut::MapEdge);
-    // Five positions right of the map and three of the next row are done together, one by one.
-    let rest = Piece::Stretch(2, Cut::MapEdge);
-    let expected = [edge, Piece::Singles(8), rest, Piece::Singles(5)];
+    let expected = [edge, Piece::Singles(5), edge, Piece::Singles(5)];
     assert_eq!(pieces(&right, u32::MAX), expected);
 
     let back = block(BITS_8, (5, 1), (10, 1), FILL | BACK, &[]);

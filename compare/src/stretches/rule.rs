@@ -11,8 +11,8 @@ const NARROW: u16 = 2;
 const NEVER: u8 = 4;
 const LAST_LOGICAL: u8 = 0xF;
 
-/// Where no stretch can begin, so many positions are done one by one before it is looked again.
-const TOGETHER: u32 = 8;
+/// Outside the map or the mask boundary so many positions are done one by one before it is looked again.
+const FEW: u32 = 16;
 
 /// Why all positions of a drawing are done one by one.
 #[derive(Clone, Copy, Debug, PartialEq, Eq)]
@@ -128,12 +128,11 @@ impl Piece {
 
 /// The next positions of a drawing without a bar, of at most so many.
 pub fn piece(state: &Coprocessor, allowance: u32) -> Piece {
+    let left = rest(state).min(allowance);
     match standing(&state.registers) {
         Standing::Fit => stretch(state, allowance),
-        _ => {
-            let left = state.left().min(u64::from(allowance)) as u32;
-            Piece::Singles(left.min(TOGETHER))
-        }
+        Standing::OtherPhase => Piece::Singles(left),
+        _ => Piece::Singles(left.min(FEW)),
     }
 }
 
@@ -151,10 +150,7 @@ pub fn stretch(state: &Coprocessor, allowance: u32) -> Piece {
     let mask = upto(first, first + side(0), x);
     let source = upto(0, side(fields.source % 4), registers.source_x.into());
     let ends = [
-        (
-            Cut::RowsEnd,
-            Some(i64::from(registers.dimension_1) + 1 - column(state)),
-        ),
+        (Cut::RowsEnd, Some(rest(state).into())),
         (Cut::Allowance, Some(allowance.into())),
         (Cut::MapEdge, Some(upto(0, side(fields.destination), x))),
         (
@@ -168,10 +164,11 @@ pub fn stretch(state: &Coprocessor, allowance: u32) -> Piece {
     Piece::Stretch(far as u32, cut)
 }
 
-/// The positions done in this row.
-fn column(state: &Coprocessor) -> i64 {
-    match state.drawing {
-        Drawing::Block { column, .. } => column.into(),
+/// The positions left in this row.
+fn rest(state: &Coprocessor) -> u32 {
+    let done = match state.drawing {
+        Drawing::Block { column, .. } => u32::from(column),
         _ => 0,
-    }
+    };
+    u32::from(state.registers.dimension_1) + 1 - done
 }
