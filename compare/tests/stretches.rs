@@ -66,7 +66,8 @@ fn rows_end_at_the_rows_end_the_allowance_and_the_maps_edge() {
 
     let right = block(BITS_8, (15, 1), (10, 2), FILL, &[]);
     let edge = Piece::Stretch(5, Cut::MapEdge);
-    let expected = [edge, Piece::Singles(5), edge, Piece::Singles(5)];
+    // Five positions right of the map and the ten of the next row are done together, one by one.
+    let expected = [edge, Piece::Singles(15)];
     assert_eq!(pieces(&right, u32::MAX), expected);
 
     let back = block(BITS_8, (5, 1), (10, 1), FILL | BACK, &[]);

@@ -11,8 +11,8 @@ const NARROW: u16 = 2;
 const NEVER: u8 = 4;
 const LAST_LOGICAL: u8 = 0xF;
 
-/// Outside the map or the mask boundary so many positions are done one by one before it is looked again.
-const FEW: u32 = 16;
+/// Where no stretch can begin, so many positions are done one by one before it is looked again.
+const TOGETHER: u32 = 16;
 
 /// Why all positions of a drawing are done one by one.
 #[derive(Clone, Copy, Debug, PartialEq, Eq)]
@@ -128,11 +128,12 @@ impl Piece {
 
 /// The next positions of a drawing without a bar, of at most so many.
 pub fn piece(state: &Coprocessor, allowance: u32) -> Piece {
-    let left = rest(state).min(allowance);
     match standing(&state.registers) {
         Standing::Fit => stretch(state, allowance),
-        Standing::OtherPhase => Piece::Singles(left),
-        _ => Piece::Singles(left.min(FEW)),
+        _ => {
+            let left = state.left().min(u64::from(allowance)) as u32;
+            Piece::Singles(left.min(TOGETHER))
+        }
     }
 }
 

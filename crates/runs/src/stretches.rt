@@ -233,41 +233,12 @@ fn pass_stretch(travel: Travel, count: u32, pen: Pen) -> Pen
     }
 }
 
-// How many positions are left in the row of a block, and 1 for any other drawing.
-fn rest_in(setup: Setup, drawing: Drawing) -> u32
-    ensures { λ r. ⌜ 0 < r ⌝ }
-{
-    match drawing {
-        Drawing::Nothing { .. } => 1,
-        Drawing::Line { .. } => 1,
-        Drawing::Codes { .. } => 1,
-        Drawing::Block {
-            inside: _,
-            column,
-            row: _,
-        } => rest(column, setup.travel.figure.dimensions.x),
-    }
-}
-
-// The positions that are done one by one outside the map before stretches are looked for again.
-const FEW: u32 = 16;
-
-// How many positions are done one by one before stretches are looked for again: all where rows are not drawn as rows, and of a row
-// the rest where its pixels are of another phase, and a few outside the map.
-fn alone(setup: Setup, rows: bool, pen: Pen, allowance: u32) -> u32
+// How many positions are done one by one before stretches are looked for again: a few, and all where rows are not drawn as rows.
+fn alone(rows: bool, allowance: u32) -> u32
     requires { ⌜ 0 < allowance ⌝ }
     ensures { λ r. ⌜ (0 < r) × (r ≤ allowance) ⌝ }
 {
-    if !rows {
-        return allowance;
-    }
-    let drawing = pen.drawing;
-    let left = least(allowance, rest_in(setup, drawing));
-    if on_map(setup.brush, pen) & in_mask(setup.brush, pen) {
-        left
-    } else {
-        least(left, FEW)
-    }
+    if rows { least(allowance, 16) } else { allowance }
 }
 
 // The next positions, at most as many as are allowed: a stretch of a row, or some one by one.
@@ -290,8 +261,7 @@ pub(crate) fn turn(
 {
     let count = length_of(setup, plan, pen, allowance);
     if count == 0 {
-        let few = alone(setup, plan.rows, pen, allowance);
-        return run_singly(setup, blends, pen, memory, few);
+        return run_singly(setup, blends, pen, memory, alone(plan.rows, allowance));
     }
     sweep(memory, lane_of(setup, plan, pen), plan.whole, count);
     Ran {

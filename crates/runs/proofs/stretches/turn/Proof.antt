@@ -27,10 +27,10 @@ run-singly-requires c κs = let h = c .before .before .before .before .before .p
 returns : tie.Need-returns
 returns c =
     let a = c .before .before .before .before .before .before .before .before .args in
-    let n = c .before .before .before .before .alone .result in
+    let n = c .before .before .before .alone .result in
     let t : Run = after (a .setup) n (begun (a .pen) (a .memory .now)) in
     let ran = c .before .before .run-singly .ensures in
-    let allowed = c .before .before .before .before .alone .ensures in (
+    let allowed = c .before .before .before .alone .ensures in (
       rw (ran .1) (done-some (a .setup) (a .pen) (a .memory .now) n (c .before .before .before .before .before .before .before .before .pre .3) (allowed .0)),
       omega (arith, ran .1, allowed .1, reached (a .setup) (a .pen) (a .memory .now) n .0),
       ap (λ (k : ℕ). after (a .setup) k (begun (a .pen) (a .memory .now))) (ran .1)
