@@ -238,7 +238,11 @@ fn alone(rows: bool, allowance: u32) -> u32
     requires { ⌜ 0 < allowance ⌝ }
     ensures { λ r. ⌜ (0 < r) × (r ≤ allowance) ⌝ }
 {
-    if rows { least(allowance, 16) } else { allowance }
+    if rows {
+        least(allowance, 16)
+    } else {
+        allowance
+    }
 }
 
 // The next positions, at most as many as are allowed: a stretch of a row, or some one by one.
