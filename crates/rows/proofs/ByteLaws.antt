@@ -37,12 +37,6 @@ pub per-some : (format : ℕ) → 0 < 8 / bitsOf format
 unfolding bitsOf
 per-some = by-size (λ (k : ℕ). 0 < 8 / 2 ^ k) (omega arith) (omega arith) (omega arith) (omega arith)
 
--- as many pixels as a byte has
-pub per-few : (format i : ℕ) → i < 8 / bitsOf format → i * bitsOf format < 8
-unfolding bitsOf
-per-few format i =
-    by-size (λ (k : ℕ). i < 8 / 2 ^ k → i * 2 ^ k < 8) (λ few. omega arith) (λ few. omega arith) (λ few. omega arith) (λ few. omega arith) format
-
 -- pixels of one byte, passed and made, by their bits and by their number
 pub edge-bits : (format g k : ℕ) → (g + k) * bitsOf format ≤ 8 → (g * bitsOf format + k * bitsOf format ≤ 8) × (g + k ≤ 8)
 unfolding bitsOf

@@ -1,13 +1,14 @@
 -- Where the pixels of a lane lie: those of one byte one after another from its end, and steps add up.
-use mathlib.Core.Path.{_≡_, refl, _∙_}
+use mathlib.Core.Path.{_≡_, refl, ap, _∙_}
 use mathlib.Core.Bool.{Bool, true, false, not}
 use Prim.Native.Nat.{ℕ, _+_, _-_, _*_, _/_, _%_, _^_, _≤_, _<_}
-use native.Mathlib.Nat.{add-mul, mul-comm, mul-sub, zero-mul}
+use native.Mathlib.Nat.{add-mul, mul-comm, mul-sub, mul-assoc, mul-le-mul-right, zero-mul}
 use native.Mathlib.Omega.{arith}
 use Rattle.numbers.specs.Choose.{choose}
 use Rattle.numbers.proofs.Choices.{choose-either}
 use Rattle.pixels.specs.Maps.{bitsOf, isMotorola}
 use Rattle.pixels.proofs.Maps.{by-size}
+use Rattle.pixels.proofs.Bytes.{full}
 use Rattle.pixels.specs.Inner.{shiftAt}
 use Rattle.rows.specs.Inner.{along, goneAt, First, Passed, fromTop}
 
@@ -23,6 +24,14 @@ along-none false n = omega arith
 pub per-pow : (format : ℕ) → 2 ^ (3 - format % 4) ≡ 8 / bitsOf format
 unfolding bitsOf
 per-pow = by-size (λ (k : ℕ). 2 ^ (3 - k) ≡ 8 / 2 ^ k) (omega arith) (omega arith) (omega arith) (omega arith)
+
+-- so many bytes' pixels have as many times eight bits
+pub eight-bits : (format c : ℕ) → c * (8 / bitsOf format) * bitsOf format ≡ c * 8
+eight-bits format c = mul-assoc c (8 / bitsOf format) (bitsOf format) ∙ ap (λ (x : ℕ). c * x) (full format)
+
+-- no more pixels than a byte has are in it
+pub per-bits : (format n : ℕ) → n ≤ 8 / bitsOf format → n * bitsOf format ≤ 8
+per-bits format n few = omega (arith, mul-le-mul-right (bitsOf format) few, full format)
 
 pub twice : (n : ℕ) → n * 2 % 8 ≡ n % 4 * 2
 twice n = omega arith

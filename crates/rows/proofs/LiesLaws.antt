@@ -3,17 +3,16 @@ use mathlib.Core.Path.{_≡_, sym, ap, subst, _∙_}
 use mathlib.Core.Bool.{Bool, true, false, false≢true}
 use mathlib.Core.List.{List}
 use Prim.Native.Nat.{ℕ, zero, suc, _+_, _-_, _*_, _/_, _%_, _^_, _≤_, _<_}
-use native.Mathlib.Nat.{add-mul, suc-mul, one-mul, mul-assoc, mul-le-mul-right, mod-lt, div-add-mod'}
+use native.Mathlib.Nat.{add-mul, suc-mul, one-mul, mul-le-mul-right, mod-lt, div-add-mod'}
 use native.Mathlib.Omega.{arith}
 use lib.ListN.{length}
 use Rattle.numbers.specs.Choose.{choose}
 use Rattle.pixels.specs.Maps.{bitsOf, isMotorola}
 use Rattle.pixels.specs.Inner.{placeAt, shiftAt}
 use Rattle.pixels.proofs.Maps.{bits-le, number-ends}
-use Rattle.pixels.proofs.Bytes.{full}
 use Rattle.rows.specs.declared.Lane.{Lane}
 use Rattle.rows.specs.Inner.{Alike, along, Reach, First, carried, swept, onward, Lies}
-use Rattle.rows.proofs.LaneLaws.{along-along, along-none, less-mul}
+use Rattle.rows.proofs.LaneLaws.{along-along, along-none, less-mul, eight-bits, per-bits}
 use Rattle.rows.proofs.SweepLaws.{bytes-on, swept-bytes}
 use Rattle.rows.proofs.ByteLaws.{Bytes, per-some}
 
@@ -87,7 +86,7 @@ shift-phase format m n = by (isMotorola format) (m * bitsOf format % 8) (n * bit
 -- pixels of so many bytes, before the end of pixel number n
 whole-bytes : (format n c : ℕ) → c * (8 / bitsOf format) ≤ n + 1 → c * 8 ≤ n * bitsOf format + bitsOf format
 whole-bytes format n c few =
-    let eight : c * (8 / bitsOf format) * bitsOf format ≡ c * 8 = mul-assoc c (8 / bitsOf format) (bitsOf format) ∙ ap (λ (x : ℕ). c * x) (full format) in
+    let eight = eight-bits format c in
     let one : (n + 1) * bitsOf format ≡ n * bitsOf format + bitsOf format = add-mul n 1 (bitsOf format) ∙ ap (λ (x : ℕ). n * bitsOf format + x) (one-mul (bitsOf format)) in
     omega (arith, eight, one, mul-le-mul-right (bitsOf format) few)
 
@@ -155,8 +154,7 @@ first-onward l size count h first c done all less =
     room : l .back ≡ true → Reach (l .back) (l .to) count (2 ^ 32) → c * 8 ≤ l .to * bitsOf (l .format)
     room back reach =
         let enough : count ≤ l .to + 1 = (subst (λ (b : Bool). Reach b (l .to) count (2 ^ 32)) back reach) .0 in
-        let eight : c * (8 / bitsOf (l .format)) * bitsOf (l .format) ≡ c * 8 =
-        mul-assoc c (8 / bitsOf (l .format)) (bitsOf (l .format)) ∙ ap (λ (x : ℕ). c * x) (full (l .format)) in
+        let eight = eight-bits (l .format) c in
         let few : c * (8 / bitsOf (l .format)) ≤ l .to = omega arith in
         omega (arith, eight, mul-le-mul-right (bitsOf (l .format)) few)
 
@@ -166,5 +164,4 @@ left-in-byte format count done all =
     let some = per-some format in
     let rest : count % (8 / bitsOf format) < 8 / bitsOf format = mod-lt count some in
     let split : count / (8 / bitsOf format) * (8 / bitsOf format) + count % (8 / bitsOf format) ≡ count = div-add-mod' count (8 / bitsOf format) in
-    let few : 0 + (count - done) ≤ 8 / bitsOf format = omega arith in
-    omega (arith, mul-le-mul-right (bitsOf format) few, full format)
+    per-bits format (0 + (count - done)) (omega arith)

@@ -3,16 +3,15 @@ use mathlib.Core.Path.{_≡_, refl, sym, ap, _∙_}
 use mathlib.Core.Bool.{Bool, true, false}
 use mathlib.Core.List.{List}
 use Prim.Native.Nat.{ℕ, zero, suc, _+_, _-_, _*_, _/_, _≤_, _<_}
-use native.Mathlib.Nat.{add-zero, add-suc, add-mul, mul-assoc, suc-mul, zero-mul}
+use native.Mathlib.Nat.{add-zero, add-suc, add-mul, suc-mul, zero-mul}
 use native.Mathlib.Omega.{arith}
 use lib.ListN.{length, getD, set}
 use Rattle.pixels.specs.Maps.{bitsOf}
-use Rattle.pixels.proofs.Bytes.{full}
 use Rattle.pixels.proofs.Maps.{bits-le}
 use Rattle.pixels.specs.Inner.{placeAt}
 use Rattle.rows.specs.declared.Lane.{Lane}
 use Rattle.rows.specs.Inner.{Alike, along, carried, withPixelNo, pixelNo, swept, onward, First}
-use Rattle.rows.proofs.LaneLaws.{along-along, less-mul}
+use Rattle.rows.proofs.LaneLaws.{along-along, less-mul, eight-bits}
 use Rattle.rows.proofs.ByteLaws.{Bytes, swept-byte}
 use Rattle.rows.proofs.CarryLaws.{length-carried, carried-bytes}
 
@@ -40,11 +39,11 @@ pub bytes-on : (back : Bool) (format n c : ℕ) → First back format n → (bac
     → (along back n (c * (8 / bitsOf format)) * bitsOf format / 8 ≡ along back (n * bitsOf format / 8) c)
     × First back format (along back n (c * (8 / bitsOf format)))
 bytes-on true format n c first held =
-    let eight : c * (8 / bitsOf format) * bitsOf format ≡ c * 8 = mul-assoc c (8 / bitsOf format) (bitsOf format) ∙ ap (λ (x : ℕ). c * x) (full format) in
+    let eight = eight-bits format c in
     let enough = held refl in
     rw (less-mul n (c * (8 / bitsOf format)) (bitsOf format), eight) (omega arith, omega arith)
 bytes-on false format n c first held =
-    let eight : c * (8 / bitsOf format) * bitsOf format ≡ c * 8 = mul-assoc c (8 / bitsOf format) (bitsOf format) ∙ ap (λ (x : ℕ). c * x) (full format) in
+    let eight = eight-bits format c in
     rw (add-mul n (c * (8 / bitsOf format)) (bitsOf format), eight) (omega arith, omega arith)
 
 -- a place so many bytes further

@@ -22,7 +22,7 @@ use Rattle.places.specs.declared.Brush.{Brush}
 use Rattle.places.specs.declared.Setup.{Setup}
 use Rattle.places.specs.Places.{isWithin, columnOf, placeX, onMap, maskX, maskY, inMask}
 use Rattle.places.proofs.Columns.{within-place}
-use Rattle.runs.specs.Inner.{columnsOn, leftOf, rightOf, goesAcross, goesBack, Spans, columnAt}
+use Rattle.runs.specs.Inner.{columnsOn, leftEdge, rightEdge, goesAcross, goesBack, Spans, columnAt}
 
 -- of two tests neither holds
 pub neither : (a b : Bool) → (a || b) ≡ false → (a ≡ false) × (b ≡ false)
@@ -45,7 +45,7 @@ spans-at true here k low high i less h = (omega (arith, h .0), omega (arith, h .
 spans-at false here k low high i less h = (omega (arith, h .0), omega (arith, h .1))
 
 -- the last column that may be painted is one of the map
-pub right-in : (b : Brush) → rightOf b ≤ b .destination .width
+pub right-in : (b : Brush) → rightEdge b ≤ b .destination .width
 right-in b = le-trans (min-le-left _ _) (min-le-left _ _)
 
 -- ---- pointers in a row
@@ -94,7 +94,7 @@ within-mask n (suc origin) last low high =
 
 module _ (s : Setup) (pen : Pen) (k : ℕ) (edge : ltZ (s .brush .edge) (pos 0) ≡ true) (across : goesAcross (s .travel .course .x) ≡ true)
     (on : onMap (s .brush) pen ≡ true) (inside : inMask (s .brush) pen ≡ true)
-    (spans : Spans (goesBack (s .travel .course .x)) (columnAt s pen) k (leftOf (s .brush)) (rightOf (s .brush))) where
+    (spans : Spans (goesBack (s .travel .course .x)) (columnAt s pen) k (leftEdge (s .brush)) (rightEdge (s .brush))) where
   abbrev b : Brush
   b = s .brush
 
@@ -110,11 +110,11 @@ module _ (s : Setup) (pen : Pen) (k : ℕ) (edge : ltZ (s .brush .edge) (pos 0) 
   at i = columnsOn (s .travel) i pen
 
   module _ (i : ℕ) (less : i < k) where
-    left-le : leftOf b ≤ col i
-    left-le = spans-at back (columnAt s pen) k (leftOf b) (rightOf b) i less spans .0
+    left-le : leftEdge b ≤ col i
+    left-le = spans-at back (columnAt s pen) k (leftEdge b) (rightEdge b) i less spans .0
 
-    right-le : col i ≤ rightOf b
-    right-le = spans-at back (columnAt s pen) k (leftOf b) (rightOf b) i less spans .1
+    right-le : col i ≤ rightEdge b
+    right-le = spans-at back (columnAt s pen) k (leftEdge b) (rightEdge b) i less spans .1
 
     column-in : col i ≤ b .destination .width
     column-in = le-trans right-le (right-in b)
@@ -123,7 +123,7 @@ module _ (s : Setup) (pen : Pen) (k : ℕ) (edge : ltZ (s .brush .edge) (pos 0) 
     unfolding columnsPassed
     there =
         ap (circledBy (s .travel .course .x) i) (on-column b pen edge on)
-        ∙ circled-along (s .travel .course .x) (columnAt s pen) k (leftOf b) (rightOf b) i across less (le-trans (min-le-left _ _) (min-le-right _ _)) spans
+        ∙ circled-along (s .travel .course .x) (columnAt s pen) k (leftEdge b) (rightEdge b) i across less (le-trans (min-le-left _ _) (min-le-right _ _)) spans
 
     pub place-at : placeX b (at i) ≡ pos (col i)
     unfolding placeX

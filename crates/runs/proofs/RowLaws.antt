@@ -43,9 +43,9 @@ use Rattle.position.proofs.Safety.{held-within, picked-reads}
 use Rattle.position.proofs.Writing.{on-map}
 use Rattle.runs.specs.declared.plans.Plan.{Plan}
 use Rattle.runs.specs.Runs.{begun, after}
-use Rattle.runs.specs.Inner.{drawingOn, columnsOn, rowDrawn, leftOf, rightOf, goesAcross, goesBack, isPlain, isBlended, hasRows, Planned}
-use Rattle.runs.specs.Inner.{Spans, numberOf, Sized, columnAt, rowAt, laneAt, Stretch}
-use Rattle.runs.proofs.StretchLaws.{stretch-after}
+use Rattle.runs.specs.Inner.{drawingOn, columnsOn, rowDrawn, leftEdge, rightEdge, goesAcross, goesBack, isPlain, isBlended, hasRows, Planned}
+use Rattle.runs.specs.Inner.{Spans, pixelNumber, Sized, columnAt, rowAt, laneBy, laneAt, Stretch}
+use Rattle.runs.proofs.StretchLaws.{and-no, stretch-after}
 use Rattle.runs.proofs.PlaceLaws.{on-column, spans-wider, spans-at, right-in, turned-along, column-at, on-at, inside-at}
 
 -- ---- what a drawing with rows has
@@ -90,23 +90,23 @@ rowed s rows =
 -- ---- numbers of pixels in a row
 
 pub number-along : (back : Bool) (map : Map) (x y i k low high : ℕ) → i < k → Spans back x k low high
-    → numberOf map (along back x i) y ≡ along back (numberOf map x y) i
+    → pixelNumber map (along back x i) y ≡ along back (pixelNumber map x y) i
 number-along true map x y i k low high less h = let few : i ≤ x = omega (arith, h .0) in omega arith
 number-along false map x y i k low high less h = omega arith
 
-number-lt : (map : Map) (x y : ℕ) → map .width < 2 ^ 16 → y < 2 ^ 16 → x ≤ map .width → numberOf map x y < 2 ^ 32
+number-lt : (map : Map) (x y : ℕ) → map .width < 2 ^ 16 → y < 2 ^ 16 → x ≤ map .width → pixelNumber map x y < 2 ^ 32
 number-lt map x y wide high h =
     let rows : y * (map .width + 1) ≤ 65535 * (map .width + 1) = mul-le-mul-right (map .width + 1) (omega arith) in omega arith
 
 number-reach : (back : Bool) (map : Map) (x y k low : ℕ) → map .width < 2 ^ 16 → y < 2 ^ 16 → Spans back x k low (map .width) → 0 < k
-    → Reach back (numberOf map x y) k (2 ^ 32)
+    → Reach back (pixelNumber map x y) k (2 ^ 32)
 number-reach true map x y k low wide high h some = (omega (arith, h .0), number-lt map x y wide high (h .1))
 number-reach false map x y k low wide high h some =
-    let last : numberOf map (x + (k - 1)) y < 2 ^ 32 = number-lt map (x + (k - 1)) y wide high (omega (arith, h .1)) in omega arith
+    let last : pixelNumber map (x + (k - 1)) y < 2 ^ 32 = number-lt map (x + (k - 1)) y wide high (omega (arith, h .1)) in omega arith
 
 -- the pixels of a row lie where the map does
 number-place : (back : Bool) (map : Map) (x y k low size : ℕ) → Spans back x k low (map .width) → y ≤ map .height → endHolds size map ≡ true
-    → (i : ℕ) → i < k → placeAt (map .format) (map .base) (along back (numberOf map x y) i) < size
+    → (i : ℕ) → i < k → placeAt (map .format) (map .base) (along back (pixelNumber map x y) i) < size
 unfolding placeOf startOf
 number-place back map x y k low size spans high ends i less =
     subst (λ (n : ℕ). placeAt (map .format) (map .base) n < size) (number-along back map x y i k low (map .width) less spans)
@@ -114,7 +114,7 @@ number-place back map x y k low size spans high ends i less =
 
 -- a lane is of the destination's format
 pub lane-format : (s : Setup) (p : Plan) (pen : Pen) → laneAt s p pen .format ≡ s .brush .destination .format
-unfolding laneAt
+unfolding laneBy
 lane-format s p pen = sym (choose-part (λ (l : Lane). l .format) (p .takes) _ _) ∙ same (p .takes)
   where
     same : (t : Bool) → choose t (s .brush .destination .format) (s .brush .destination .format) ≡ s .brush .destination .format
@@ -147,11 +147,11 @@ module _ (s : Setup) (blends : Blends) (p : Plan) (planned : Planned s blends p)
   op = blended (bitsOf (map .format)) (blends .foreground)
 
   -- the columns of the stretch, by the direction of the drawing
-  columns : Spans back (columnAt s pen) k (leftOf (s .brush)) (rightOf (s .brush))
+  columns : Spans back (columnAt s pen) k (leftEdge (s .brush)) (rightEdge (s .brush))
   columns =
       let there = stretch .columns in
-      subst (λ (b : Bool). Spans b (columnAt s pen) k (leftOf (s .brush)) (rightOf (s .brush))) (planned .back)
-      (subst (λ (l : ℕ). Spans (p .back) (columnAt s pen) k l (rightOf (s .brush))) (planned .left)
+      subst (λ (b : Bool). Spans b (columnAt s pen) k (leftEdge (s .brush)) (rightEdge (s .brush))) (planned .back)
+      (subst (λ (l : ℕ). Spans (p .back) (columnAt s pen) k l (rightEdge (s .brush))) (planned .left)
       (subst (λ (r : ℕ). Spans (p .back) (columnAt s pen) k (p .left) r) (planned .right) there))
 
   -- the source's columns, where it is taken
@@ -169,16 +169,12 @@ module _ (s : Setup) (blends : Blends) (p : Plan) (planned : Planned s blends p)
         let nulled = ap (nulledBy s (pen .e)) d ∙ none-left (eqb mode 1) (eqb mode 2) (eqb mode 3) in
         let on = on-at s pen k (row .edge) (row .across) (stretch .on) (stretch .inside) columns i less in
         let in' = inside-at s pen k (row .edge) (row .across) (stretch .on) (stretch .inside) columns i less in
-        let zero = none (eqb (s .brush .mask .mode) 2) _ (row .mask) in
+        let zero = and-no (eqb (s .brush .mask .mode) 2) _ (row .mask) in
         let compared = never s memory (at i) (row .condition) in
         λ j.
         choose (moves j) Moved
         (choose (nulled j) Nulled
         (choose (not (on j)) OutsideMap (choose (not (in' j)) OutsideMask (choose (zero j) MaskZero (choose (compared j) Compared Painted)))))
-      where
-        none : (a b : Bool) → a ≡ false → (a && b) ≡ false
-        none true b e = absurd (false≢true (sym e))
-        none false b e = refl
 
     -- its pixel, by the ink's blend
     mixed-at : (S : ℕ) → (s .brush .flow .foreground ≡ true → S ≡ sourcePixel (s .travel) memory (at i))
@@ -202,16 +198,16 @@ module _ (s : Setup) (blends : Blends) (p : Plan) (planned : Planned s blends p)
         taken false h = refl
 
     -- where it lies
-    number-at : numberOf map (columnAt s (at i)) (rowAt pen) ≡ along back (numberOf map (columnAt s pen) (rowAt pen)) i
+    number-at : pixelNumber map (columnAt s (at i)) (rowAt pen) ≡ along back (pixelNumber map (columnAt s pen) (rowAt pen)) i
     number-at =
-        ap (λ (x : ℕ). numberOf map x (rowAt pen)) (column-at s pen k (row .edge) (row .across) (stretch .on) (stretch .inside) columns i less)
-        ∙ number-along back map (columnAt s pen) (rowAt pen) i k (leftOf (s .brush)) (rightOf (s .brush)) less columns
+        ap (λ (x : ℕ). pixelNumber map x (rowAt pen)) (column-at s pen k (row .edge) (row .across) (stretch .on) (stretch .inside) columns i less)
+        ∙ number-along back map (columnAt s pen) (rowAt pen) i k (leftEdge (s .brush)) (rightEdge (s .brush)) less columns
 
     -- so it is one pixel of a lane, whatever that takes where the source is not taken
     drawn-at : (S : ℕ) → (s .brush .flow .foreground ≡ true → S ≡ sourcePixel (s .travel) memory (at i))
         → drawn s memory (at i)
-        ≡ withPixelNo (map .format) (map .base) (along back (numberOf map (columnAt s pen) (rowAt pen)) i)
-        (op S (pixelNo (map .format) (map .base) (along back (numberOf map (columnAt s pen) (rowAt pen)) i) memory)) memory
+        ≡ withPixelNo (map .format) (map .base) (along back (pixelNumber map (columnAt s pen) (rowAt pen)) i)
+        (op S (pixelNo (map .format) (map .base) (along back (pixelNumber map (columnAt s pen) (rowAt pen)) i) memory)) memory
     unfolding drawn drawnBy withPixel pixelAt byteAt placeOf shiftOf startOf destinationPixel columnsPassed
     drawn-at S source =
         ap (λ (f : Fate). drawnBy f s memory (at i)) painted
@@ -221,7 +217,7 @@ module _ (s : Setup) (blends : Blends) (p : Plan) (planned : Planned s blends p)
     -- the source pixel, where it is taken
     source-at : s .brush .flow .foreground ≡ true → let from = s .travel .source .map in
         sourcePixel (s .travel) memory (at i)
-        ≡ pixelNo (map .format) (from .base) (along back (numberOf from (pen .pointers .source .x) (pen .pointers .source .y)) i) memory
+        ≡ pixelNo (map .format) (from .base) (along back (pixelNumber from (pen .pointers .source .x) (pen .pointers .source .y)) i) memory
     unfolding sourcePixel pixelAt byteAt placeOf shiftOf startOf columnsPassed
     source-at takes =
         let from = s .travel .source .map in
@@ -230,7 +226,7 @@ module _ (s : Setup) (blends : Blends) (p : Plan) (planned : Planned s blends p)
         let spans = sources takes in
         let across : choose (s .travel .source .used) (turnedBy (s .travel .course .x) i (from .width) x) x ≡ along back x i =
         choose-true _ _ used ∙ turned-along (s .travel .course .x) x k (from .width) i (row .across) less spans in
-        let number = ap (λ (n : ℕ). numberOf from n (pen .pointers .source .y)) across ∙ number-along back from x (pen .pointers .source .y) i k 0 (from .width) less spans in
+        let number = ap (λ (n : ℕ). pixelNumber from n (pen .pointers .source .y)) across ∙ number-along back from x (pen .pointers .source .y) i k 0 (from .width) less spans in
         λ j. pixelNo (row .format takes j) (from .base) (number j) memory
 
     -- together
@@ -238,34 +234,18 @@ module _ (s : Setup) (blends : Blends) (p : Plan) (planned : Planned s blends p)
         drawn s memory (at i)
         ≡ withPixelNo (l .format) (l .destination) (along (l .back) (l .to) i)
         (op (pixelNo (l .format) (l .source) (along (l .back) (l .from) i) memory) (pixelNo (l .format) (l .destination) (along (l .back) (l .to) i) memory)) memory
-    unfolding laneAt
+    unfolding laneBy
     position-swept = subst P (sym (planned .back)) (by (p .takes) (planned .takes))
       where
-        number : ℕ
-        number = numberOf map (columnAt s pen) (rowAt pen)
-
-        lane : Bool → Bool → Lane
-        lane t b =
-            choose t
-            (record {
-              format = map .format;
-              back = b;
-              source = s .travel .source .map .base;
-              destination = map .base;
-              from = numberOf (s .travel .source .map) (pen .pointers .source .x) (pen .pointers .source .y);
-              to = number;
-            })
-            (record { format = map .format; back = b; source = map .base; destination = map .base; from = number; to = number })
-
         made : Lane → List ℕ
         made l =
             withPixelNo (l .format) (l .destination) (along (l .back) (l .to) i)
             (op (pixelNo (l .format) (l .source) (along (l .back) (l .from) i) memory) (pixelNo (l .format) (l .destination) (along (l .back) (l .to) i) memory)) memory
 
         P : Bool → Type 0
-        P b = drawn s memory (at i) ≡ made (lane (p .takes) b)
+        P b = drawn s memory (at i) ≡ made (laneBy s (p .takes) b pen)
 
-        by : (t : Bool) → t ≡ s .brush .flow .foreground → drawn s memory (at i) ≡ made (lane t back)
+        by : (t : Bool) → t ≡ s .brush .flow .foreground → drawn s memory (at i) ≡ made (laneBy s t back pen)
         by true e = drawn-at _ (λ takes. sym (source-at takes))
         by false e = drawn-at _ (λ takes. absurd (false≢true (e ∙ takes)))
 
@@ -281,7 +261,7 @@ module _ (s : Setup) (blends : Blends) (p : Plan) (planned : Planned s blends p)
 
   -- and lies in the memory
   pub row-lies : 0 < k → Sized map → (p .takes ≡ true → Sized (s .travel .source .map)) → Lies (laneAt s p pen) k size
-  unfolding laneAt
+  unfolding laneBy
   row-lies some sized sized' = by (p .takes) (p .back) (planned .takes) (planned .back) (stretch .phase)
     where
       from : Map
@@ -294,25 +274,19 @@ module _ (s : Setup) (blends : Blends) (p : Plan) (planned : Planned s blends p)
       y = pen .pointers .source .y
 
       number : ℕ
-      number = numberOf map (columnAt s pen) (rowAt pen)
+      number = pixelNumber map (columnAt s pen) (rowAt pen)
 
-      lane : Bool → Bool → Lane
-      lane t b =
-          choose t
-          (record { format = map .format; back = b; source = from .base; destination = map .base; from = numberOf from x y; to = number })
-          (record { format = map .format; back = b; source = map .base; destination = map .base; from = number; to = number })
-
-      spans : Spans back (columnAt s pen) k (leftOf (s .brush)) (map .width)
-      spans = spans-wider back (columnAt s pen) k (leftOf (s .brush)) (rightOf (s .brush)) (map .width) (right-in (s .brush)) columns
+      spans : Spans back (columnAt s pen) k (leftEdge (s .brush)) (map .width)
+      spans = spans-wider back (columnAt s pen) k (leftEdge (s .brush)) (rightEdge (s .brush)) (map .width) (right-in (s .brush)) columns
 
       low : rowAt pen ≤ map .height
       low = on-map (s .brush) pen (stretch .on) .1
 
       to-reach : Reach back number k (2 ^ 32)
-      to-reach = number-reach back map (columnAt s pen) (rowAt pen) k (leftOf (s .brush)) (sized .0) (lt-of-le-of-lt low (sized .1)) spans some
+      to-reach = number-reach back map (columnAt s pen) (rowAt pen) k (leftEdge (s .brush)) (sized .0) (lt-of-le-of-lt low (sized .1)) spans some
 
       to-place : (i : ℕ) → i < k → placeAt (map .format) (map .base) (along back number i) < size
-      to-place = number-place back map (columnAt s pen) (rowAt pen) k (leftOf (s .brush)) size spans low (safe .destination)
+      to-place = number-place back map (columnAt s pen) (rowAt pen) k (leftEdge (s .brush)) size spans low (safe .destination)
 
       used : s .brush .flow .foreground ≡ true → s .travel .source .used ≡ true
       used takes = safe .used (picked-reads (s .brush .flow) true takes)
@@ -320,23 +294,23 @@ module _ (s : Setup) (blends : Blends) (p : Plan) (planned : Planned s blends p)
       within : s .brush .flow .foreground ≡ true → isInside from (pen .pointers .source) ≡ true
       within takes = source-in (s .travel) pen (safe .pointers) (used takes)
 
-      from-reach : s .brush .flow .foreground ≡ true → Reach back (numberOf from x y) k (2 ^ 32)
+      from-reach : s .brush .flow .foreground ≡ true → Reach back (pixelNumber from x y) k (2 ^ 32)
       from-reach takes =
           let fits = sized' (planned .takes ∙ takes) in
           number-reach back from x y k 0 (fits .0) (lt-of-le-of-lt (inside-y from (pen .pointers .source) (within takes)) (fits .1)) (sources takes) some
 
-      from-place : s .brush .flow .foreground ≡ true → (i : ℕ) → i < k → placeAt (map .format) (from .base) (along back (numberOf from x y) i) < size
+      from-place : s .brush .flow .foreground ≡ true → (i : ℕ) → i < k → placeAt (map .format) (from .base) (along back (pixelNumber from x y) i) < size
       from-place takes =
-          subst (λ (f : ℕ). (i : ℕ) → i < k → placeAt f (from .base) (along back (numberOf from x y) i) < size) (row .format takes)
+          subst (λ (f : ℕ). (i : ℕ) → i < k → placeAt f (from .base) (along back (pixelNumber from x y) i) < size) (row .format takes)
           (number-place back from x y k 0 size (sources takes) (inside-y from (pen .pointers .source) (within takes)) (safe .source (used takes)))
 
       by : (t b : Bool) → t ≡ s .brush .flow .foreground → b ≡ back
-          → lane t b .from * bitsOf (map .format) % 8 ≡ lane t b .to * bitsOf (map .format) % 8 → Lies (lane t b) k size
+          → laneBy s t b pen .from * bitsOf (map .format) % 8 ≡ laneBy s t b pen .to * bitsOf (map .format) % 8 → Lies (laneBy s t b pen) k size
       by true b e e' same =
-          subst (λ (w : Bool). Lies (lane true w) k size) (sym e')
+          subst (λ (w : Bool). Lies (laneBy s true w pen) k size) (sym e')
           (record { from = from-reach (sym e); to = to-reach; phase = same; source = from-place (sym e); destination = to-place })
       by false b e e' same =
-          subst (λ (w : Bool). Lies (lane false w) k size) (sym e')
+          subst (λ (w : Bool). Lies (laneBy s false w pen) k size) (sym e')
           (record { from = to-reach; to = to-reach; phase = same; source = to-place; destination = to-place })
 
   -- it begins on the destination's circle
@@ -344,10 +318,10 @@ module _ (s : Setup) (blends : Blends) (p : Plan) (planned : Planned s blends p)
   stretch-on some =
       subst OnCircle (sym (on-column (s .brush) pen (row .edge) (stretch .on))) (pos-on (columnAt s pen) (first back columns))
     where
-      circle : rightOf (s .brush) ≤ 6143
+      circle : rightEdge (s .brush) ≤ 6143
       circle = le-trans (min-le-left _ _) (min-le-right _ _)
 
-      first : (b : Bool) → Spans b (columnAt s pen) k (leftOf (s .brush)) (rightOf (s .brush)) → columnAt s pen ≤ 6143
+      first : (b : Bool) → Spans b (columnAt s pen) k (leftEdge (s .brush)) (rightEdge (s .brush)) → columnAt s pen ≤ 6143
       first true h = le-trans (h .1) circle
       first false h = omega (arith, h .1, circle)
 

@@ -36,9 +36,10 @@ rowIn (Block inside column row) = row
 
 -- ---- positions of one row
 
-none-filled : (a b : Bool) → a ≡ false → (a && b) ≡ false
-none-filled true b e = absurd (false≢true (sym e))
-none-filled false b e = refl
+-- a test of two parts of which the first does not hold
+pub and-no : (a b : Bool) → a ≡ false → (a && b) ≡ false
+and-no true b e = absurd (false≢true (sym e))
+and-no false b e = refl
 
 module _ (s : Setup) (pen : Pen) (column row : ℕ) (drawing : pen .drawing ≡ Block false column row) (fills : s .brush .flow .fills ≡ false)
     (on : OnCircle (pen .pointers .destination .x)) (inside : pointersInside (s .travel) pen ≡ true) where
@@ -67,7 +68,7 @@ module _ (s : Setup) (pen : Pen) (column row : ℕ) (drawing : pen .drawing ≡ 
   uncrossed : (memory : List ℕ) (k : ℕ) → crossed s memory (at k) ≡ at k
   unfolding crossed insideAt penWith columnsPassed withInside
   uncrossed memory k =
-      let out : insideAt s memory (at k) ≡ false = none-filled (s .brush .flow .fills) _ fills in
+      let out : insideAt s memory (at k) ≡ false = and-no (s .brush .flow .fills) _ fills in
       ap (λ (i : Bool). penWith (withInside i (at k .drawing)) (at k)) out ∙ at-kept k
 
   -- one column further

@@ -54,14 +54,14 @@ isBlock (Codes count code done) = false
 isBlock (Block inside column row) = true
 
 -- the columns that are inside the map and the mask boundary, on the circle
-abbrev pub leftOf : Brush → ℕ
-leftOf b = choose (eqb (b .mask .mode) 0) 0 (b .mask .origin .x)
+abbrev pub leftEdge : Brush → ℕ
+leftEdge b = choose (eqb (b .mask .mode) 0) 0 (b .mask .origin .x)
 
 abbrev pub maskEnd : Brush → ℕ
 maskEnd b = choose (eqb (b .mask .mode) 0) 6143 (b .mask .origin .x + b .mask .map .width)
 
-abbrev pub rightOf : Brush → ℕ
-rightOf b = min (min (b .destination .width) 6143) (maskEnd b)
+abbrev pub rightEdge : Brush → ℕ
+rightEdge b = min (min (b .destination .width) 6143) (maskEnd b)
 
 -- whether a row goes across
 abbrev pub goesAcross : Turn → Bool
@@ -96,8 +96,8 @@ pub record Planned (s : Setup) (blends : Blends) (p : Plan) : Type 0 where
   pub rows : hasRows s ≡ true
   pub takes : p .takes ≡ s .brush .flow .foreground
   pub back : p .back ≡ goesBack (s .travel .course .x)
-  pub left : p .left ≡ leftOf (s .brush)
-  pub right : p .right ≡ rightOf (s .brush)
+  pub left : p .left ≡ leftEdge (s .brush)
+  pub right : p .right ≡ rightEdge (s .brush)
   pub whole : Alike (s .brush .destination .format) (blended (bitsOf (s .brush .destination .format)) (blends .foreground)) (wholly (p .whole))
 
 -- ---- a stretch of a row
@@ -108,8 +108,8 @@ Spans true here k low high = (k + low ≤ here + 1) × (here ≤ high)
 Spans false here k low high = (low ≤ here) × (here + k ≤ high + 1)
 
 -- how many pixels of a map come before this one
-abbrev pub numberOf : Map → (x y : ℕ) → ℕ
-numberOf map x y = y * (map .width + 1) + x
+abbrev pub pixelNumber : Map → (x y : ℕ) → ℕ
+pixelNumber map x y = y * (map .width + 1) + x
 
 -- a map's sizes are of 16 bits
 abbrev pub Sized : Map → Type 0
@@ -122,26 +122,29 @@ columnAt s pen = columnOf (placeX (s .brush) pen)
 abbrev pub rowAt : Pen → ℕ
 rowAt pen = columnOf (pen .pointers .destination .y)
 
--- the lane of a row from the pen's pixel on: of the source where that is taken, and otherwise of the destination alone
-unfoldable pub laneAt : Setup → Plan → Pen → Lane
-laneAt s p pen =
-    choose (p .takes)
+-- the lane of a row from the pen's pixel on, back or forth: of the source where that is taken, and otherwise of the destination alone
+unfoldable pub laneBy : Setup → (takes back : Bool) → Pen → Lane
+laneBy s takes back pen =
+    choose takes
     (record {
       format = s .brush .destination .format;
-      back = p .back;
+      back = back;
       source = s .travel .source .map .base;
       destination = s .brush .destination .base;
-      from = numberOf (s .travel .source .map) (pen .pointers .source .x) (pen .pointers .source .y);
-      to = numberOf (s .brush .destination) (columnAt s pen) (rowAt pen);
+      from = pixelNumber (s .travel .source .map) (pen .pointers .source .x) (pen .pointers .source .y);
+      to = pixelNumber (s .brush .destination) (columnAt s pen) (rowAt pen);
     })
     (record {
       format = s .brush .destination .format;
-      back = p .back;
+      back = back;
       source = s .brush .destination .base;
       destination = s .brush .destination .base;
-      from = numberOf (s .brush .destination) (columnAt s pen) (rowAt pen);
-      to = numberOf (s .brush .destination) (columnAt s pen) (rowAt pen);
+      from = pixelNumber (s .brush .destination) (columnAt s pen) (rowAt pen);
+      to = pixelNumber (s .brush .destination) (columnAt s pen) (rowAt pen);
     })
+
+abbrev pub laneAt : Setup → Plan → Pen → Lane
+laneAt s p pen = laneBy s (p .takes) (p .back) pen
 
 -- k positions from the pen on are alike: in one row, inside the map and the mask boundary, and no source pointer wraps between them, which
 -- are in the destination's phase

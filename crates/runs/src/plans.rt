@@ -5,7 +5,7 @@ ghost use mathlib.Core.Bool.{true, false, _&&_};
 ghost use lib.Dec.{ltb};
 ghost use Prim.Native.Nat.{min};
 ghost use Rattle.runs.specs.Inner as inner;
-ghost use Rattle.runs.specs.Inner.{leftOf, rightOf, isPlain, isBlended, hasRows, Planned};
+ghost use Rattle.runs.specs.Inner.{leftEdge, rightEdge, isPlain, isBlended, hasRows, Planned};
 use moves::Turn;
 use parts::drawing::Drawing;
 use pixels::bits_of;
@@ -77,7 +77,7 @@ fn has_rows(setup: Setup) -> bool
 
 // The first column inside the mask boundary.
 fn left_of(brush: Brush) -> u16
-    ensures { λ r. ⌜ r ≡ leftOf brush ⌝ }
+    ensures { λ r. ⌜ r ≡ leftEdge brush ⌝ }
 {
     if brush.mask.mode == 0 {
         0
@@ -106,7 +106,7 @@ fn mask_end(brush: Brush) -> u32
 
 // The last column inside the map and the mask boundary, on the circle.
 fn right_of(brush: Brush) -> u16
-    ensures { λ r. ⌜ r ≡ rightOf brush ⌝ }
+    ensures { λ r. ⌜ r ≡ rightEdge brush ⌝ }
 {
     least(least(brush.destination.width as u32, 6143), mask_end(brush)) as u16
 }

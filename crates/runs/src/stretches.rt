@@ -85,7 +85,7 @@ fn reach(setup: Setup, plan: Plan, pen: Pen) -> u32
 
 // How many pixels of the map come before this one.
 fn number(map: Map, x: u16, y: u16) -> u32
-    ensures { λ r. ⌜ (r ≡ inner.numberOf map x y) × Sized map ⌝ }
+    ensures { λ r. ⌜ (r ≡ inner.pixelNumber map x y) × Sized map ⌝ }
 {
     index(map, x, y)
 }

@@ -1,14 +1,12 @@
 -- `rows::sweeps::lead` is what is left of the byte, if anything of it is gone: as many pixels further a byte begins.
 use mathlib.Core.Path.{_≡_, refl, sym, _∙_}
 use mathlib.Core.Bool.{Bool, true, false, false≢true}
-use Prim.Native.Nat.{ℕ, _+_, _-_, _*_, _/_, _%_, _^_, _≤_, _<_, zero-le}
-use native.Mathlib.Nat.{mul-le-mul-right}
+use Prim.Native.Nat.{ℕ, _+_, _-_, _/_, _%_, _^_, _≤_, _<_, zero-le}
 use native.Mathlib.Omega.{arith}
 use borrow.Author.Needs.{needs}
 use Rattle.pixels.specs.Maps.{bitsOf}
-use Rattle.pixels.proofs.Bytes.{full}
 use Rattle.rows.specs.Inner.{along, Reach, goneAt}
-use Rattle.rows.proofs.LaneLaws.{along-none, none-gone, gone-on, gone-lt}
+use Rattle.rows.proofs.LaneLaws.{along-none, none-gone, gone-on, gone-lt, per-bits}
 use Rattle.rows.proofs.sweeps.lead.Statement.{statement}
 use Rattle.rows.proofs.sweeps.lead.Tie as tie
 
@@ -16,10 +14,6 @@ use Rattle.rows.proofs.sweeps.lead.Tie as tie
 room : (back : Bool) (n count r : ℕ) → Reach back n count (2 ^ 32) → r < count → back ≡ true → r ≤ n
 room true n count r reach less e = omega (arith, reach .0)
 room false n count r reach less e = absurd (false≢true e)
-
--- no more than a byte has
-in-byte : (format g r : ℕ) → g + r ≤ 8 / bitsOf format → (g + r) * bitsOf format ≤ 8
-in-byte format g r few = omega (arith, mul-le-mul-right (bitsOf format) few, full format)
 
 -- fewer are gone than a byte has
 gone-few : (c : tie.After-gone) → c .gone .result ≤ 8 / bitsOf (c .before .args .format)
@@ -31,7 +25,7 @@ returns c =
     let none = sym (c .before .gone .ensures) ∙ c .if1 .taken in (
       zero-le,
       λ more. rw (along-none (a .back) (a .n)) (none-gone (a .back) (a .format) (a .n) none),
-      in-byte (a .format) (goneAt (a .back) (a .format) (a .n)) 0 (omega (arith, gone-lt (a .back) (a .format) (a .n))),
+      per-bits (a .format) (goneAt (a .back) (a .format) (a .n) + 0) (omega (arith, gone-lt (a .back) (a .format) (a .n))),
     )
 
 sub-if2 : tie.Need-sub-if2
@@ -51,7 +45,7 @@ returns-2 c =
     let less : left ≤ a .count = omega arith in (
       less,
       λ more. none-gone (a .back) (a .format) (along (a .back) (a .n) left) (gone-on (a .back) (a .format) (a .n) left all (room (a .back) (a .n) (a .count) left (c .before .before .before .pre) more)),
-      in-byte (a .format) (goneAt (a .back) (a .format) (a .n)) left (omega arith),
+      per-bits (a .format) (goneAt (a .back) (a .format) (a .n) + left) (omega arith),
     )
 
 returns-3 : tie.Need-returns-3
@@ -62,7 +56,7 @@ returns-3 c =
     let end : 8 / 2 ^ (a .format % 4) ≡ 8 / bitsOf (a .format) = refl in (
       omega arith,
       λ more. absurd (omega arith),
-      in-byte (a .format) (goneAt (a .back) (a .format) (a .n)) (a .count) (omega (arith, c .before .before .gone .ensures)),
+      per-bits (a .format) (goneAt (a .back) (a .format) (a .n) + (a .count)) (omega (arith, c .before .before .gone .ensures)),
     )
 
 pub lead-spec : {M : Type 1} → statement M

@@ -4,7 +4,7 @@ use Prim.Native.Nat.{_≤_, min}
 use native.Mathlib.Nat.{min-le-left, min-le-right, le-trans}
 use native.Mathlib.Omega.{arith}
 use borrow.Author.Needs.{needs}
-use Rattle.runs.specs.Inner.{rightOf, maskEnd}
+use Rattle.runs.specs.Inner.{rightEdge, maskEnd}
 use Rattle.runs.proofs.plans.right_of.Statement.{statement}
 use Rattle.runs.proofs.plans.right_of.Tie as tie
 
@@ -14,7 +14,7 @@ returns c =
     let second = c .before .mask-end .ensures in
     c .least2 .ensures ∙ λ i. min (first i) (second i)
 
-circle : (c : tie.After-least2) → rightOf (c .before .before .before .before .args .brush) ≤ 6143
+circle : (c : tie.After-least2) → rightEdge (c .before .before .before .before .args .brush) ≤ 6143
 circle c = let b = c .before .before .before .before .args .brush in le-trans (min-le-left (min (b .destination .width) 6143) (maskEnd b)) (min-le-right (b .destination .width) 6143)
 
 cast-result : tie.Need-cast-result

@@ -2,18 +2,18 @@
 use mathlib.Core.Path.{_≡_, sym, _∙_}
 use mathlib.Core.Bool.{false≢true}
 use borrow.Author.Needs.{needs}
-use Rattle.runs.specs.Inner.{numberOf, columnAt, rowAt, laneAt}
+use Rattle.runs.specs.Inner.{pixelNumber, columnAt, rowAt, laneBy}
 use Rattle.runs.proofs.stretches.lane_of.Statement.{statement}
 use Rattle.runs.proofs.stretches.lane_of.Tie as tie
 
 to-number : (c : tie.After-number) → let a = c .before .before .args in
-    c .number .result ≡ numberOf (a .setup .brush .destination) (columnAt (a .setup) (a .pen)) (rowAt (a .pen))
+    c .number .result ≡ pixelNumber (a .setup .brush .destination) (columnAt (a .setup) (a .pen)) (rowAt (a .pen))
 to-number c =
     let at = c .before .destination-of .ensures in
-    c .number .ensures .0 ∙ λ i. numberOf (c .before .before .args .setup .brush .destination) (at .0 i) (at .1 i)
+    c .number .ensures .0 ∙ λ i. pixelNumber (c .before .before .args .setup .brush .destination) (at .0 i) (at .1 i)
 
 returns : tie.Need-returns
-unfolding laneAt
+unfolding laneBy
 returns c =
     let a = c .before .before .before .before .args in
     let to = to-number (c .before .before) in
@@ -33,7 +33,7 @@ returns c =
     )
 
 returns-2 : tie.Need-returns-2
-unfolding laneAt
+unfolding laneBy
 returns-2 c =
     let a = c .before .before .before .args in
     let to = to-number (c .before) in (
