@@ -25,7 +25,7 @@ impl Arguments {
             leaves: 1_000_000,
             images: 20_000,
             drawings: 10_000,
-            stretches: 8_000,
+            stretches: 14_000,
             outlines: 20_000,
             sequences: 120_000,
             only: None,

@@ -1,65 +1,45 @@
 //! The rule of stretches: what it says of examples made by hand, that drawing by it comes to the same, and that each mistake in it is noticed.
 
+mod begun;
 mod by_rule;
 
+use begun::{begun, pieces, BACK, FROM, TO};
 use by_rule::{Mistake, MISTAKES};
 use compare::memories::Memories;
 use compare::random::Random;
 use compare::random_drawings::{started, RandomDrawing};
+use compare::stretches::bars::{bar, Bar};
 use compare::stretches::cases;
 use compare::stretches::parts::Parts;
-use compare::stretches::rule::{self, Bar, Cut, Piece, Standing};
+use compare::stretches::rule::{self, Cut, Kind, Piece, Standing};
 use compare::stretches::taken::{ink, Ink};
 use compare::stretches::tally::Tally;
-use compare::writes::{
-    self, Point, Write, BITS_1, BITS_2, BITS_8, BLOCK, MIX_SOURCE, MIX_XOR, MOTOROLA,
-};
-use model::{moves, Coprocessor};
+use compare::writes::{self, Point, Write, BITS_1, BITS_2, BITS_8, BLOCK, MIX_XOR, MOTOROLA};
+use model::Coprocessor;
 
-/// The maps drawn into and copied from, the pixel operations that copy, and the octant bit of negative X.
-const TO: u32 = 1;
-const FROM: u32 = 2;
+/// The pixel operations that fill, that copy, and that draw by a pattern map.
 const FILL: u32 = BLOCK | TO << 16;
 const COPY: u32 = 0x2800_8000 | FROM << 20 | TO << 16;
-const BACK: u32 = 0b100;
+const PATTERN: u32 = FILL & !0xF000 | FROM << 12;
 
-/// A block of this size at a place of a map of 20 by 4 pixels, from the same place of another.
+/// A block of this size at a place of a map of 20 by 4 pixels, from the first pixel of another.
 fn block(format: u32, at: Point, size: Point, operations: u32, others: &[Write]) -> Coprocessor {
-    let mut all = writes::map(TO, 0, (20, 4), format).to_vec();
-    all.extend(writes::map(FROM, 100, (20, 4), format));
-    all.extend([writes::mixes(MIX_SOURCE, MIX_SOURCE), writes::no_compare()]);
-    all.extend([writes::planes(u32::MAX), writes::dimensions(size)]);
-    all.extend([writes::source((0, 0)), writes::destination(at)]);
+    let mut all = vec![writes::dimensions(size), writes::source((0, 0))];
+    all.push(writes::destination(at));
     all.extend(others);
     all.push(writes::operations(operations));
-    let (state, _) = started(&RandomDrawing {
-        memory: vec![0; 200],
-        writes: all,
-    });
-    assert!(state.drawing.is_unfinished());
-    state
+    begun(format, &all)
 }
 
-/// All pieces of a run of so many positions.
-fn pieces(state: &Coprocessor, allowance: u32) -> Vec<Piece> {
-    let mut state = state.clone();
-    let mut left = state.left().min(allowance.into()) as u32;
-    let mut pieces = Vec::new();
-    while left > 0 {
-        let piece = rule::piece(&state, left);
-        for _ in 0..piece.length() {
-            state.drawing = moves::advance(&mut state.registers, state.drawing, true);
-        }
-        left -= piece.length();
-        pieces.push(piece);
-    }
-    pieces
+/// How the next position of a block stands in a run to the end.
+fn standing(state: &Coprocessor) -> Standing {
+    rule::standing(state, u32::MAX)
 }
 
 #[test]
 fn rows_end_at_the_rows_end_the_allowance_and_the_maps_edge() {
     let inside = block(BITS_8, (3, 1), (10, 2), FILL, &[]);
-    let row = Piece::Stretch(10, Cut::RowsEnd);
+    let row = Piece::Stretch(10, Cut::End);
     assert_eq!(pieces(&inside, u32::MAX), [row, row]);
     let cut = Piece::Stretch(4, Cut::Allowance);
     assert_eq!(pieces(&inside, 14), [row, cut]);
@@ -90,14 +70,11 @@ fn rows_end_at_the_masks_edge_and_where_the_source_wraps() {
     let expected = [Piece::Stretch(5, Cut::MaskEdge), Piece::Singles(5)];
     assert_eq!(pieces(&state, u32::MAX), expected);
     let state = block(BITS_8, (3, 0), (10, 1), masked, &mask(6));
-    assert_eq!(rule::standing(&state.registers), Standing::OutsideMask);
+    assert_eq!(standing(&state), Standing::OutsideMask);
 
     let from = [writes::source((17, 0))];
     let state = block(BITS_8, (0, 0), (10, 1), COPY, &from);
-    let expected = [
-        Piece::Stretch(3, Cut::SourceWrap),
-        Piece::Stretch(7, Cut::RowsEnd),
-    ];
+    let expected = [Piece::Stretch(3, Cut::Wrap), Piece::Stretch(7, Cut::End)];
     assert_eq!(pieces(&state, u32::MAX), expected);
     let state = block(
         BITS_8,
@@ -106,29 +83,88 @@ fn rows_end_at_the_masks_edge_and_where_the_source_wraps() {
         FILL | 0x8000_0000 | FROM << 20,
         &from,
     );
-    assert_eq!(pieces(&state, u32::MAX), [Piece::Stretch(10, Cut::RowsEnd)]);
+    assert_eq!(pieces(&state, u32::MAX), [Piece::Stretch(10, Cut::End)]);
 }
 
 #[test]
-fn a_source_in_another_phase_is_taken_one_by_one() {
-    let standing = |format, from| {
+fn a_source_is_taken_in_its_phase_or_in_another() {
+    let kind = |format, from| {
         let state = block(format, (1, 1), (10, 1), COPY, &[writes::source(from)]);
-        rule::standing(&state.registers)
+        assert_eq!(standing(&state), Standing::Fit);
+        rule::kind(&state)
     };
     // Rows of 20 pixels of 1 bit are two bytes and a half.
-    assert_eq!(standing(BITS_1, (5, 0)), Standing::Fit);
-    assert_eq!(standing(BITS_1, (1, 1)), Standing::Fit);
-    assert_eq!(standing(BITS_1, (1, 0)), Standing::OtherPhase);
-    assert_eq!(standing(BITS_2, (1, 0)), Standing::Fit);
-    assert_eq!(standing(BITS_8, (0, 3)), Standing::Fit);
+    assert_eq!(kind(BITS_1, (5, 0)), Kind::Copy);
+    assert_eq!(kind(BITS_1, (1, 1)), Kind::Copy);
+    assert_eq!(kind(BITS_1, (1, 0)), Kind::Slide);
+    assert_eq!(kind(BITS_2, (1, 0)), Kind::Copy);
+    assert_eq!(kind(BITS_8, (0, 3)), Kind::Copy);
     let left = block(BITS_8, (-1, 0), (10, 1), COPY, &[]);
-    assert_eq!(rule::standing(&left.registers), Standing::OutsideMap);
+    assert_eq!(standing(&left), Standing::OutsideMap);
 }
 
 #[test]
-fn each_bar_is_told() {
+fn a_source_in_another_phase_is_a_stretch_where_it_lies_apart() {
+    // Pixels 0 to 7 are one byte, and 8 to 15 the next: of eight source pixels from 1 on, the last lies in the byte drawn into.
+    let own = COPY & !(0xF << 20) | TO << 20;
+    let copy = |format: u32, at, from, length, operations| {
+        let writes = [writes::source((from, 0))];
+        block(format, (at, 0), (length, 1), operations, &writes)
+    };
+    let all = |length| [Piece::Stretch(length, Cut::End)];
+    let one_by_one = |length| [Piece::Singles(length)];
+    let state = copy(BITS_1, 8, 1, 7, own);
+    assert_eq!(pieces(&state, u32::MAX), all(7));
+    let state = copy(BITS_1, 8, 1, 8, own);
+    assert_eq!(pieces(&state, u32::MAX), one_by_one(8));
+    // A run that ends before that pixel is a stretch.
+    assert_eq!(pieces(&state, 7), [Piece::Stretch(7, Cut::Allowance)]);
+    let state = copy(BITS_1, 14, 7, 7, own | BACK);
+    assert_eq!(pieces(&state, u32::MAX), all(7));
+    let state = copy(BITS_1, 14, 7, 8, own | BACK);
+    assert_eq!(pieces(&state, u32::MAX), one_by_one(8));
+    // After sixteen positions it is looked again, and the three that remain share a byte too.
+    let state = copy(BITS_1, 0, 19, 20, own);
+    let expected = [
+        Piece::Stretch(1, Cut::Wrap),
+        Piece::Singles(16),
+        Piece::Singles(3),
+    ];
+    assert_eq!(pieces(&state, u32::MAX), expected);
+}
+
+#[test]
+fn a_pattern_is_a_stretch_where_it_lies_apart() {
+    let pattern = |base, from, length, operations| {
+        let mut writes = writes::map(FROM, base, (20, 4), BITS_1).to_vec();
+        writes.push(writes::pattern((from, 0)));
+        let at = if operations & BACK == 0 {
+            2
+        } else {
+            1 + length
+        };
+        block(BITS_8, (at, 1), (length, 1), operations, &writes)
+    };
+    let state = pattern(100, 15, 9, PATTERN);
+    let expected = [Piece::Stretch(5, Cut::Wrap), Piece::Stretch(4, Cut::End)];
+    assert_eq!(pieces(&state, u32::MAX), expected);
+    let state = pattern(100, 3, 9, PATTERN | BACK);
+    let expected = [Piece::Stretch(4, Cut::Wrap), Piece::Stretch(5, Cut::End)];
+    assert_eq!(pieces(&state, u32::MAX), expected);
+    // The bytes drawn are 22 to 30, and those read two from the base on.
+    for (base, is_apart) in [(20, true), (21, false), (30, false), (31, true)] {
+        for way in [0, BACK] {
+            let from = if way == 0 { 3 } else { 11 };
+            let state = pattern(base, from, 9, PATTERN | way);
+            assert_eq!(standing(&state) == Standing::Fit, is_apart, "{base}");
+        }
+    }
+}
+
+#[test]
+fn each_bar_of_blocks_is_told() {
     let bar = |size, operations, others: &[Write]| {
-        rule::bar(&block(BITS_1, (0, 0), size, operations, others).registers)
+        bar(&block(BITS_1, (0, 0), size, operations, others).registers)
     };
     let wide = (4, 1);
     let other_order = writes::map(FROM, 100, (20, 4), BITS_1 | MOTOROLA);
@@ -139,8 +175,7 @@ fn each_bar_is_told() {
     assert_eq!(bar(wide, FILL, &other_order), None);
     assert_eq!(bar((3, 9), FILL, &[]), Some(Bar::NarrowRow));
     let filled = FILL & !0x0F00_F000 | 0x0A00_2000;
-    assert_eq!(bar(wide, filled, &[]), Some(Bar::NoBlock));
-    assert_eq!(bar(wide, FILL & !0xF000 | 0x2000, &[]), Some(Bar::Pattern));
+    assert_eq!(bar(wide, filled, &[]), Some(Bar::Fill));
     assert_eq!(bar(wide, COPY | 0x1000, &[]), Some(Bar::Pattern));
     assert_eq!(bar(wide, FILL | 0x80, &[]), Some(Bar::MaskMap));
     assert_eq!(bar(wide, FILL, &[(0x4A, 1, 0)]), Some(Bar::Compare));
@@ -149,8 +184,33 @@ fn each_bar_is_told() {
         bar(wide, FILL, &[writes::mixes(0x10, 0)]),
         Some(Bar::Arithmetic)
     );
-    assert_eq!(bar(wide, FILL | 0x30, &[]), Some(Bar::Mode11));
+    assert_eq!(bar(wide, FILL | 0x30, &[]), Some(Bar::Mode));
     assert_eq!(bar(wide, COPY, &other_order), Some(Bar::Format));
+}
+
+#[test]
+fn each_bar_of_patterns_is_told() {
+    let bar = |format, size, operations, others: &[Write]| {
+        let mut writes = writes::map(FROM, 100, (20, 4), BITS_1).to_vec();
+        writes.extend(writes::map(3, 100, (4, 4), format));
+        writes.extend(others);
+        bar(&block(format, (0, 0), size, operations, &writes).registers)
+    };
+    let of_8 = |operations, others: &[Write]| bar(BITS_8, (4, 1), operations, others);
+    assert_eq!(of_8(PATTERN, &[]), None);
+    assert_eq!(of_8(PATTERN | 0x40, &[]), None);
+    assert_eq!(of_8(PATTERN, &[writes::mixes(0xF, 0xF)]), None);
+    assert_eq!(bar(BITS_8 | MOTOROLA, (4, 1), PATTERN, &[]), None);
+    assert_eq!(bar(BITS_2, (4, 1), PATTERN, &[]), Some(Bar::Bits));
+    assert_eq!(bar(BITS_8, (3, 1), PATTERN, &[]), Some(Bar::NarrowRow));
+    for source in [0x2030_0000, 0x8030_0000] {
+        assert_eq!(of_8(PATTERN | source, &[]), Some(Bar::Source));
+    }
+    assert_eq!(of_8(PATTERN | 0x80, &[]), Some(Bar::MaskMap));
+    assert_eq!(of_8(PATTERN | 0x30, &[]), Some(Bar::Mode));
+    let mixed = |foreground, background| of_8(PATTERN, &[writes::mixes(foreground, background)]);
+    assert_eq!(mixed(0x10, 0), Some(Bar::Arithmetic));
+    assert_eq!(mixed(0, 0x10), Some(Bar::Background));
 }
 
 #[test]
@@ -180,14 +240,15 @@ fn a_stretch_is_whole_bytes_between_ragged_ends() {
     assert_eq!(Parts::of(5, 1, 2, false), parts(1, 4, 0));
 }
 
-/// Each mistake is noticed in at least so many blocks.
+/// Each mistake is noticed in at least so many drawings, of so many.
 const OFTEN: usize = 4;
+const MANY: u64 = 2_800;
 
-/// Random blocks of all families in turn.
-fn blocks(count: u64) -> Vec<RandomDrawing> {
+/// Random drawings of all families in turn.
+fn drawings() -> Vec<RandomDrawing> {
     let mut random = Random::new(1);
-    let mut block = |number| cases::plan(&mut random, number).1.drawing(&mut random);
-    (0..count).map(&mut block).collect()
+    let mut drawing = |number| cases::plan(&mut random, number).1.drawing(&mut random);
+    (0..MANY).map(&mut drawing).collect()
 }
 
 /// Whether drawing by the rule, with a mistake or without, comes to the state and memory of the independent program.
@@ -206,20 +267,31 @@ fn is_same(drawing: &RandomDrawing, allowance: u32, mistake: Option<Mistake>) ->
 
 #[test]
 fn drawing_by_the_rule_comes_to_the_same() {
-    for drawing in blocks(1_600) {
+    for drawing in drawings() {
         assert!(is_same(&drawing, u32::MAX, None), "{drawing:?}");
         assert!(is_same(&drawing, 7, None), "{drawing:?}");
     }
 }
 
+/// Whether a drawing has the bar that a mistake does not see, if it is one of these.
+fn can_be_noticed(drawing: &RandomDrawing, mistake: Mistake) -> bool {
+    match mistake {
+        Mistake::Barred(unseen) => bar(&started(drawing).0.registers) == Some(unseen),
+        _ => true,
+    }
+}
+
 #[test]
 fn every_mistake_is_noticed() {
-    let blocks = blocks(1_600);
+    let drawings = drawings();
     for mistake in MISTAKES {
         let is_noticed = |drawing: &&RandomDrawing| {
-            !is_same(drawing, u32::MAX, Some(mistake)) || !is_same(drawing, 7, Some(mistake))
+            can_be_noticed(drawing, mistake)
+                && [u32::MAX, 7]
+                    .iter()
+                    .any(|allowance| !is_same(drawing, *allowance, Some(mistake)))
         };
-        let noticed = blocks.iter().filter(is_noticed).take(OFTEN).count();
+        let noticed = drawings.iter().filter(is_noticed).take(OFTEN).count();
         assert_eq!(noticed, OFTEN, "{mistake:?}");
     }
 }

@@ -1,12 +1,11 @@
-//! Random blocks: plain ones, with every ragged end, over their own source, of many bytes, and without stretches.
+//! Random blocks: plain ones, with every ragged end, over their own source, and of many bytes.
 
-use super::borders::masks;
 use super::cases::{COLUMNS, FARTHEST, FORMATS, WIDTHS};
-use super::plans::{Apart, Pattern, Plan};
-use super::rule::Bar;
+use super::plans::{Pattern, Plan, Walk};
+use super::reads::{Apart, Read};
 use crate::random::Random;
 use crate::writes::{MIX_SOURCE, MIX_XOR, MOTOROLA};
-use model::operations::{self, AREA_FILL, INVERTING_PXBLT, MASK_ENABLED, PXBLT};
+use model::operations::{INVERTING_PXBLT, PXBLT};
 
 /// A block inside its destination, from the inside of its source.
 pub fn plain(random: &mut Random) -> Plan {
@@ -15,25 +14,27 @@ pub fn plain(random: &mut Random) -> Plan {
     let (any_mix, any_planes) = (random.below(16), random.word());
     let size = (number(random, 1, 40), number(random, 1, 4));
     let corner = (number(random, 0, 9), number(random, 0, 2));
-    let from = (number(random, 0, 9), number(random, 0, 2));
     let mut side = |first: i64, length: i64| first + length + number(random, 0, 9);
     let map = (side(corner.0, size.0), side(corner.1, size.1));
-    // From any pixel of the first ones, in any direction.
-    let source = (side(9, 2 * size.0), side(2, 2 * size.1));
+    let (is_back, is_up) = (random.once_in(2), random.once_in(2));
+    let source = Read::around(random, size, is_back, is_up);
     let mut plan = Plan {
         function: random.pick(&[PXBLT, PXBLT, PXBLT, INVERTING_PXBLT]),
-        is_back: random.once_in(2),
-        is_up: random.once_in(2),
+        is_back,
+        is_up,
+        is_steep: random.once_in(2),
+        walk: Walk::Rows,
         code,
-        orders: [order; 2],
+        order,
         size,
         corner,
         map,
-        source,
-        from,
-        apart: Apart::Anyhow,
+        source: Read { order, ..source },
+        tile: Read::around(random, size, is_back, is_up),
         takes_source: !random.once_in(3),
+        background_takes_source: random.once_in(2),
         mix: random.pick(&[MIX_SOURCE, MIX_SOURCE, MIX_XOR, any_mix, any_mix]),
+        background_mix: random.below(0x16),
         planes: random.pick(&[u32::MAX, (1 << (1 << code)) - 1, any_planes]),
         condition: 4,
         drawing_mode: random.below(3),
@@ -41,26 +42,25 @@ pub fn plain(random: &mut Random) -> Plan {
         mask_mode: 0,
         mask: ((0, 0), (1, 1)),
     };
-    if plan.is_back {
-        plan.from.0 += plan.size.0;
-    }
-    if plan.is_up {
-        plan.from.1 += plan.size.1;
-    }
     settle_phase(random, &mut plan);
     plan
 }
 
 /// Most often makes rows of whole bytes, so that all have one phase, and source and destination of the same phase.
 pub fn settle_phase(random: &mut Random, plan: &mut Plan) {
+    settle_rows(random, plan);
+    if !random.once_in(5) {
+        plan.bring_in_phase(0);
+    }
+}
+
+/// Most often makes rows of whole bytes.
+pub fn settle_rows(random: &mut Random, plan: &mut Plan) {
     let in_byte = plan.in_byte() as u64;
     if !random.once_in(4) {
-        for side in [&mut plan.map.0, &mut plan.source.0] {
+        for side in [&mut plan.map.0, &mut plan.source.size.0] {
             *side = (*side as u64).next_multiple_of(in_byte) as i64;
         }
-    }
-    if !random.once_in(5) {
-        plan.bring_in_phase();
     }
 }
 
@@ -69,14 +69,15 @@ pub fn ragged(random: &mut Random, plan: &mut Plan, turn: u64) {
     let format = (turn % FORMATS) as u32;
     let turn = turn / FORMATS;
     plan.code = format % 4;
-    plan.orders = [if format < 4 { 0 } else { MOTOROLA }; 2];
+    plan.order = if format < 4 { 0 } else { MOTOROLA };
+    plan.source.order = plan.order;
     plan.corner.0 = (turn % COLUMNS) as i64;
     plan.size.0 = (turn / COLUMNS % WIDTHS) as i64 + 1;
     plan.size.1 = number(random, 1, 3);
     plan.map.0 = plan.corner.0 + plan.size.0 + number(random, 0, 9);
-    plan.source.0 = 2 * plan.size.0 + 18;
+    plan.source.size.0 = 2 * plan.size.0 + 18;
     if plan.is_back {
-        plan.from.0 = plan.size.0 + number(random, 0, 9);
+        plan.source.from.0 = plan.size.0 + number(random, 0, 9);
     }
     settle_phase(random, plan);
 }
@@ -107,12 +108,12 @@ pub fn overlaps(random: &mut Random, plan: &mut Plan, round: u64) {
         plan.corner.0 + plan.size.0 + columns.max(0) + number(random, 0, 9),
         plan.corner.1 + plan.size.1,
     );
-    plan.source = plan.map;
-    plan.from = plan.to();
-    plan.apart = Apart::Bytes(apart);
+    plan.source.size = plan.map;
+    plan.source.from = plan.to();
+    plan.source.apart = Apart::Bytes(apart);
     if random.once_in(2) {
-        plan.from.0 += columns;
-        plan.apart = Apart::Same;
+        plan.source.from.0 += columns;
+        plan.source.apart = Apart::Same;
     }
 }
 
@@ -122,40 +123,10 @@ pub fn long(random: &mut Random, plan: &mut Plan) {
     plan.size.0 += number(random, 0, 8);
     plan.corner = (number(random, 0, 8), 0);
     plan.map = (plan.corner.0 + plan.size.0 + number(random, 0, 8), 1);
-    plan.source = plan.map;
-    plan.from = plan.to();
+    plan.source.size = plan.map;
+    plan.source.from = plan.to();
     if random.once_in(2) {
-        plan.apart = Apart::Bytes(number(random, -90, 90));
-    }
-}
-
-/// A block that has no stretches, for one cause alone.
-pub fn barred(random: &mut Random, plan: &mut Plan, bar: Bar) {
-    plan.size.0 = plan.size.0.max(4);
-    match bar {
-        Bar::NoBlock => {
-            plan.function = AREA_FILL;
-            plan.pattern = Pattern::Map;
-            plan.is_back = false;
-        }
-        Bar::NarrowRow => plan.size.0 = number(random, 1, 3),
-        Bar::Pattern => {
-            plan.pattern = match random.once_in(2) {
-                true => Pattern::FromSource,
-                false => Pattern::Map,
-            }
-        }
-        Bar::MaskMap => {
-            masks(random, plan);
-            plan.mask_mode = MASK_ENABLED;
-        }
-        Bar::Compare => plan.condition = random.pick(&[0, 1, 2, 3, 5, 6, 7]),
-        Bar::Arithmetic => plan.mix = 0x10 + random.below(6),
-        Bar::Mode11 => plan.drawing_mode = operations::AREA_BOUNDARY,
-        Bar::Format => {
-            plan.takes_source = true;
-            plan.orders[1] ^= MOTOROLA;
-        }
+        plan.source.apart = Apart::Bytes(number(random, -90, 90));
     }
 }
 

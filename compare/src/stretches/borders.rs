@@ -1,7 +1,7 @@
-//! What puts a border into a block's rows: edges of the map and of the mask, ends of the circle, and wraps of the source.
+//! What puts a border into a drawing: edges of the map and of the mask, ends of the circle, and wraps of the source or pattern.
 
 use super::blocks::number;
-use super::plans::Plan;
+use super::plans::{Pattern, Plan};
 use crate::random::Random;
 use model::operations::MASK_BOUNDARY;
 
@@ -49,7 +49,7 @@ pub fn circle(random: &mut Random, plan: &mut Plan) {
 }
 
 /// One of the ends of the destination's circle.
-fn end_of_circle(random: &mut Random) -> i64 {
+pub fn end_of_circle(random: &mut Random) -> i64 {
     match random.once_in(2) {
         true => -2_048,
         false => 6_143,
@@ -81,20 +81,21 @@ pub fn masks(random: &mut Random, plan: &mut Plan) {
     plan.mask = ((first.max(0), upper.max(0)), (length.max(1), rows.max(1)));
 }
 
-/// A source whose edges are met within a row, several times where it is narrow.
+/// A source or pattern map whose edges are met within a row, several times where it is narrow.
 pub fn wraps(random: &mut Random, plan: &mut Plan) {
-    plan.takes_source = true;
-    let in_byte = plan.in_byte();
+    plan.takes_source |= plan.pattern != Pattern::Map;
+    let size = plan.size;
+    let (read, in_byte) = plan.read();
     let width = match random.below(4) {
         0 => number(random, 1, 9),
         1 => in_byte * number(random, 1, 3),
-        _ => number(random, 1, plan.size.0 + 9),
+        _ => number(random, 1, size.0 + 9),
     };
-    plan.source = (width, number(random, 1, plan.size.1 + 1));
+    read.size = (width, number(random, 1, size.1 + 1));
     let column = match random.below(3) {
         0 => number(random, 0, 9),
-        1 => plan.source.0 - 1 - number(random, 0, 9),
+        1 => read.size.0 - 1 - number(random, 0, 9),
         _ => number(random, 0, 60),
     };
-    plan.from = (column.max(0), number(random, 0, plan.source.1 - 1));
+    read.from = (column.max(0), number(random, 0, read.size.1 - 1));
 }

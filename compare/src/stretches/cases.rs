@@ -1,13 +1,15 @@
-//! Random blocks at the borders between stretches and single positions, family by family.
+//! Random drawings at the borders between stretches and single positions, family by family.
 
-use super::blocks::{barred, long, overlaps, plain, ragged, settle_phase};
+use super::apart::{patterns, slides};
+use super::barred::barred;
+use super::blocks::{long, overlaps, plain, ragged, settle_phase};
 use super::borders::{circle, edges, masks, wraps};
 use super::plans::Plan;
-use super::rule::Bar;
+use super::strokes::cases::{codes, lines};
 use crate::random::Random;
 use crate::writes::MOTOROLA;
 
-/// What a block is made for.
+/// What a drawing is made for.
 #[derive(Clone, Copy, Debug, PartialEq, Eq)]
 pub enum Family {
     /// Every first column and width, at every size and order.
@@ -20,11 +22,16 @@ pub enum Family {
     Overlaps,
     /// Rows of many bytes.
     Long,
+    /// Copies in another phase.
+    Slides,
+    Patterns,
+    Lines,
+    Codes,
     /// Without stretches, for one cause.
     Barred,
 }
 
-pub const FAMILIES: [&str; 8] = [
+pub const FAMILIES: [&str; 12] = [
     "ragged ends",
     "map edges",
     "ends of the circle",
@@ -32,17 +39,27 @@ pub const FAMILIES: [&str; 8] = [
     "source wraps",
     "overlaps",
     "many bytes",
-    "without rows",
+    "copies in another phase",
+    "patterns",
+    "lines",
+    "codes",
+    "no stretches",
 ];
 
 /// The families in turn.
-const TURNS: [Family; 8] = [
+const TURNS: [Family; 14] = [
     Family::Ragged,
     Family::Edges,
+    Family::Slides,
+    Family::Patterns,
+    Family::Lines,
     Family::Ragged,
     Family::Masks,
+    Family::Slides,
+    Family::Codes,
     Family::Ragged,
     Family::Wraps,
+    Family::Patterns,
     Family::Overlaps,
     Family::Barred,
 ];
@@ -62,43 +79,28 @@ pub const ALL_RAGGED: u64 = RAGGED.div_ceil(3) * TURNS.len() as u64;
 /// The distances in bytes at which source and destination overlap, from this far behind to as far before.
 pub const FARTHEST: i64 = 9;
 
-/// The causes for which a block has no stretches, in turn.
-const BARS: [Bar; 8] = [
-    Bar::NoBlock,
-    Bar::NarrowRow,
-    Bar::Pattern,
-    Bar::MaskMap,
-    Bar::Compare,
-    Bar::Arithmetic,
-    Bar::Mode11,
-    Bar::Format,
-];
-
 /// The plan of a number, and its family.
 pub fn plan(random: &mut Random, number: u64) -> (Family, Plan) {
-    let (round, turn) = (
-        number / TURNS.len() as u64,
-        (number % TURNS.len() as u64) as usize,
-    );
-    let family = match TURNS[turn] {
-        Family::Edges if round.is_multiple_of(RARE) => Family::Circle,
-        Family::Overlaps if round.is_multiple_of(RARE) => Family::Long,
+    let (family, turn) = turn(number);
+    let family = match family {
+        Family::Edges if turn.is_multiple_of(RARE) => Family::Circle,
+        Family::Overlaps if turn.is_multiple_of(RARE) => Family::Long,
         family => family,
     };
     let mut plan = plain(random);
     match family {
-        Family::Ragged => ragged(random, &mut plan, 3 * round + turn as u64 / 2),
+        Family::Ragged => ragged(random, &mut plan, turn),
         Family::Edges => edges(random, &mut plan),
         Family::Circle => circle(random, &mut plan),
         Family::Masks => masks(random, &mut plan),
         Family::Wraps => wraps(random, &mut plan),
-        Family::Overlaps => overlaps(random, &mut plan, round),
+        Family::Overlaps => overlaps(random, &mut plan, turn),
         Family::Long => long(random, &mut plan),
-        Family::Barred => barred(
-            random,
-            &mut plan,
-            BARS[(round % BARS.len() as u64) as usize],
-        ),
+        Family::Slides => slides(random, &mut plan, turn),
+        Family::Patterns => patterns(random, &mut plan, turn),
+        Family::Lines => lines(random, &mut plan, turn),
+        Family::Codes => codes(random, &mut plan, turn),
+        Family::Barred => barred(random, &mut plan, turn),
     }
     if matches!(family, Family::Edges | Family::Masks | Family::Wraps) {
         add_others(random, &mut plan, family);
@@ -111,9 +113,21 @@ pub fn plan(random: &mut Random, number: u64) -> (Family, Plan) {
     }
     if family != Family::Barred && !plan.takes_source && random.once_in(2) {
         // A source that is not taken may be of the other order.
-        plan.orders[1] ^= MOTOROLA;
+        plan.source.order ^= MOTOROLA;
     }
     (family, plan)
+}
+
+/// The family of a number, and how many of that family came before it.
+fn turn(number: u64) -> (Family, u64) {
+    let turns = TURNS.len() as u64;
+    let place = (number % turns) as usize;
+    let family = TURNS[place];
+    let among = |turns: &[Family]| turns.iter().filter(|one| **one == family).count() as u64;
+    (
+        family,
+        number / turns * among(&TURNS) + among(&TURNS[..place]),
+    )
 }
 
 /// Now and then adds what the other families are made for.

@@ -1,17 +1,27 @@
-//! Blocks at the borders between stretches, many positions of a row at once, and positions one by one.
+//! Drawings at the borders between stretches, many positions of a row, line or code at once, and positions one by one.
 //!
 //! No result tells which were taken; the rule that does is written down here, so that every kind is known to have been met.
 
+mod apart;
+mod barred;
 mod blocks;
 mod borders;
 mod counts;
+mod hindered;
+mod near;
 mod overlaps;
+mod patterned;
 mod phases;
+mod slid;
+mod strokes;
 mod ways;
 
+pub mod bars;
 pub mod cases;
 pub mod parts;
+pub mod places;
 pub mod plans;
+pub mod reads;
 pub mod rule;
 pub mod taken;
 pub mod tally;
@@ -23,13 +33,13 @@ use crate::progress::Steps;
 use crate::random::Random;
 use counts::Counts;
 
-/// The blocks from which on every kind must have been met.
+/// The drawings from which on every kind must have been met.
 const MANY: u64 = cases::ALL_RAGGED;
 
-/// One in so many blocks is not begun at its first position.
+/// One in so many drawings is not begun at its first position.
 const ELSEWHERE: u32 = 8;
 
-/// Compares a block in each step, of all families in turn.
+/// Compares a drawing in each step, of all families in turn.
 pub(crate) fn compare(
     random: &mut Random,
     steps: Steps,

@@ -1,7 +1,7 @@
 //! Stretches of source pixels that lie a few bytes from the destination.
 
 use super::cases::FARTHEST;
-use super::rule;
+use super::places;
 use super::taken::Ink;
 use crate::report;
 use model::Registers;
@@ -31,18 +31,9 @@ impl Overlaps {
             Ink::Blended => 2,
         };
         let fields = registers.fields();
-        let (from, to) = (
-            registers.map(fields.source),
-            registers.map(fields.destination),
-        );
-        let from_at = (registers.source_x.into(), registers.source_y.into());
-        let to_at = (
-            registers.destination_x as u32,
-            registers.destination_y as u32,
-        );
-        let byte = |map: &model::Map, at| i64::from(map.base) + (rule::bit(map, at) / 8) as i64;
-        let distance = byte(from, from_at) - byte(to, to_at);
-        let bytes = i64::from(whole * to.bits() / 8);
+        let [from, to] = [places::source(registers), places::destination(registers)];
+        let distance = from.byte() as i64 - to.byte() as i64;
+        let bytes = i64::from(whole * to.map.bits() / 8);
         if distance.abs() <= FARTHEST && distance.abs() < bytes {
             let way = usize::from(fields.x_sign() < 0);
             self.times[row + way][(distance + FARTHEST) as usize] += u64::from(whole);

@@ -1,14 +1,15 @@
-//! What was met of stretches themselves.
+//! What was met of stretches of a colour, and of source pixels in phase.
 
 use super::overlaps::Overlaps;
 use super::parts::Parts;
 use super::phases::Phases;
+use super::places;
 use super::rule::{self, Cut};
-use super::tally::Tally;
+use super::tally::{self, Tally};
 use crate::writes::{MIX_SOURCE, MIX_XOR};
 use model::mixes;
 use model::pixels::Order;
-use model::{Coprocessor, Drawing, Registers};
+use model::{Coprocessor, Drawing, Map, Registers};
 use std::fmt;
 
 /// What the whole bytes of a stretch do.
@@ -31,7 +32,9 @@ const INKS: [&str; 6] = [
     "blended ragged ends",
 ];
 
-const BLENDS: [&str; 5] = [
+/// The mixes and planes of source pixels.
+pub const BLENDS: [&str; 6] = [
+    "S in all planes",
     "S in some planes",
     "xor in all planes",
     "xor in some planes",
@@ -39,15 +42,16 @@ const BLENDS: [&str; 5] = [
     "another in some planes",
 ];
 
-const CUTS: [&str; 5] = [
+/// What ends a stretch; the last ends none of a colour.
+pub const CUTS: [&str; 5] = [
     "row's end",
     "allowance",
     "map's edge",
     "mask's edge",
-    "source's edge",
+    "edge of what is read",
 ];
 
-const LENGTHS: [&str; 6] = [
+pub const LENGTHS: [&str; 6] = [
     "of one pixel",
     "of ragged ends alone",
     "of whole bytes alone",
@@ -64,7 +68,7 @@ const COMING: [&str; 2] = [
     "after two edges of the source",
 ];
 
-const FORMATS: [&str; 8] = [
+pub const FORMATS: [&str; 8] = [
     "1 bit Intel",
     "2 bits Intel",
     "4 bits Intel",
@@ -75,11 +79,14 @@ const FORMATS: [&str; 8] = [
     "8 bits Motorola",
 ];
 
+pub const PLANES: [&str; 2] = ["all planes", "some planes"];
+
 /// What was met.
 pub struct Taken {
     inks: Tally,
     blends: Tally,
-    cuts: Tally,
+    /// Of a colour, and of source pixels.
+    cuts: [Tally; 2],
     lengths: Tally,
     coming: Tally,
     formats: Tally,
@@ -91,17 +98,19 @@ pub struct Taken {
 
 impl Default for Taken {
     fn default() -> Taken {
-        let mixes = || (0..=0xF).map(|mix| format!("{mix:X}"));
         Taken {
             inks: Tally::both_ways("positions in stretches", &INKS),
-            blends: Tally::both_ways("positions blended, by mix", &BLENDS),
-            cuts: Tally::both_ways("stretches, by what ends them", &CUTS),
+            blends: Tally::both_ways("positions copied and blended, by mix", &BLENDS),
+            cuts: [
+                Tally::both_ways("stretches of a colour, by what ends them", &CUTS[..4]),
+                Tally::both_ways("stretches of source pixels, by what ends them", &CUTS),
+            ],
             lengths: Tally::both_ways("stretches", &LENGTHS),
             coming: Tally::both_ways("stretches that come", &COMING),
             formats: Tally::new("positions in whole bytes, by format", FORMATS),
             mixes: [
-                Tally::new("positions in stretches of a colour, by mix", mixes()),
-                Tally::new("positions in stretches of source pixels, by mix", mixes()),
+                tally::of_mixes("positions in stretches of a colour, by mix"),
+                tally::of_mixes("positions in stretches of source pixels, by mix"),
             ],
             phases: Phases::default(),
             overlaps: Overlaps::default(),
@@ -113,33 +122,29 @@ impl Taken {
     /// Counts the stretch of so many positions that comes next.
     pub fn note(&mut self, state: &Coprocessor, length: u32, cut: Cut) {
         let registers = &state.registers;
-        let fields = registers.fields();
-        let map = registers.map(fields.destination);
-        let is_back = fields.x_sign() < 0;
-        let in_byte = 8 / map.bits();
-        let at = [registers.destination_x, registers.destination_y].map(|at| at as u32);
-        let place = (rule::bit(map, at.into()) / u64::from(map.bits())) as u32 % in_byte;
-        let parts = Parts::of(length, place, in_byte, is_back);
+        let is_back = registers.fields().x_sign() < 0;
+        let to = places::destination(registers);
+        let in_byte = 8 / to.map.bits();
+        let parts = Parts::of(length, to.in_byte(), in_byte, is_back);
         let ink = ink(registers);
+        let source = usize::from(ink != Ink::Solid);
 
         self.inks.note_way(is_back, 2 * ink as usize, parts.whole);
         let ends = parts.before + parts.after;
         self.inks.note_way(is_back, 2 * ink as usize + 1, ends);
-        self.cuts.note_way(is_back, cut as usize, 1);
+        self.cuts[source].note_way(is_back, cut as usize, 1);
         self.lengths
             .note_way(is_back, length_of(&parts, in_byte), 1);
-        let order = 4 * usize::from(map.order() == Order::Motorola);
-        let format = order + usize::from(map.pixel_code());
-        self.formats.note(format, parts.whole);
-        let source = usize::from(ink != Ink::Solid);
+        self.formats.note(format_of(to.map), parts.whole);
         self.mixes[source].note(registers.foreground_mix.into(), length);
-        if ink == Ink::Blended {
+        if ink != Ink::Solid {
             self.blends.note_way(is_back, blend(registers), length);
         }
         for (place, is_met) in coming(state).into_iter().enumerate() {
             self.coming.note_way(is_back, place, is_met.into());
         }
-        self.phases.note(map.bits(), is_back, place, length);
+        self.phases
+            .note(to.map.bits(), is_back, to.in_byte(), length);
         self.overlaps.note(registers, ink, parts.whole);
     }
 
@@ -148,22 +153,22 @@ impl Taken {
     }
 
     pub fn stretches(&self) -> u64 {
-        self.cuts.sum()
+        self.cuts.iter().map(Tally::sum).sum()
     }
 
     /// What was never met.
     pub fn never_met(&self) -> Option<String> {
-        let never = self.tallies().into_iter().find_map(Tally::never_met);
-        never
+        tally::never_met(&self.tallies())
             .or_else(|| self.phases.never_met())
             .or_else(|| self.overlaps.never_met())
     }
 
-    fn tallies(&self) -> [&Tally; 8] {
+    fn tallies(&self) -> [&Tally; 9] {
         [
             &self.inks,
             &self.blends,
-            &self.cuts,
+            &self.cuts[0],
+            &self.cuts[1],
             &self.lengths,
             &self.coming,
             &self.formats,
@@ -178,31 +183,46 @@ pub fn ink(registers: &Registers) -> Ink {
     if !rule::takes_source(registers) {
         return Ink::Solid;
     }
-    match u32::from(registers.foreground_mix) == MIX_SOURCE && has_all_planes(registers) {
+    match u32::from(registers.foreground_mix) == MIX_SOURCE && planes_of(registers) == 0 {
         true => Ink::Copied,
         false => Ink::Blended,
     }
 }
 
-/// Whether every bit of a pixel takes the mix.
-fn has_all_planes(registers: &Registers) -> bool {
+/// The place among the planes: whether not every bit of a pixel takes the mix.
+pub fn planes_of(registers: &Registers) -> usize {
     let map = registers.map(registers.fields().destination);
     let ones = mixes::ones(map.bits());
-    registers.plane_mask & ones == ones
+    usize::from(registers.plane_mask & ones != ones)
 }
 
-/// The place of the registers' mix and planes among the blends.
-fn blend(registers: &Registers) -> usize {
-    let some = usize::from(!has_all_planes(registers));
-    match registers.foreground_mix.into() {
-        MIX_SOURCE => 0,
-        MIX_XOR => 1 + some,
-        _ => 3 + some,
+/// Whether a position outside the map lies left of it, right of it, or above or below it.
+pub fn beside_map(registers: &Registers) -> usize {
+    let map = registers.map(registers.fields().destination);
+    let is_row = (0..map.rows() as i32).contains(&registers.destination_y.into());
+    match is_row {
+        true => usize::from(registers.destination_x >= 0),
+        false => 2,
     }
 }
 
+/// The place of a map's format among the formats.
+pub fn format_of(map: &Map) -> usize {
+    4 * usize::from(map.order() == Order::Motorola) + usize::from(map.pixel_code())
+}
+
+/// The place of the registers' mix and planes among the blends.
+pub fn blend(registers: &Registers) -> usize {
+    let mix = match registers.foreground_mix.into() {
+        MIX_SOURCE => 0,
+        MIX_XOR => 2,
+        _ => 4,
+    };
+    mix + planes_of(registers)
+}
+
 /// The place of the parts among the lengths.
-fn length_of(parts: &Parts, in_byte: u32) -> usize {
+pub fn length_of(parts: &Parts, in_byte: u32) -> usize {
     let ends = [parts.before, parts.after];
     match (parts.whole, ends.iter().filter(|end| **end > 0).count()) {
         _ if parts.whole / in_byte > MANY_BYTES => 5,
@@ -231,9 +251,7 @@ fn coming(state: &Coprocessor) -> [bool; 2] {
 
 impl fmt::Display for Taken {
     fn fmt(&self, lines: &mut fmt::Formatter) -> fmt::Result {
-        for tally in self.tallies() {
-            write!(lines, "{tally}")?;
-        }
+        tally::write_all(lines, &self.tallies())?;
         write!(lines, "{}{}", self.phases, self.overlaps)
     }
 }

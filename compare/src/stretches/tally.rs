@@ -52,6 +52,23 @@ impl Tally {
     }
 }
 
+/// One for each logical mix.
+pub fn of_mixes(title: &'static str) -> Tally {
+    Tally::new(title, (0..=0xF).map(|mix| format!("{mix:X}")))
+}
+
+/// What was never met of the first of these that lacks anything.
+pub fn never_met(tallies: &[&Tally]) -> Option<String> {
+    tallies.iter().find_map(|tally| tally.never_met())
+}
+
+/// Writes these one after another.
+pub fn write_all(lines: &mut fmt::Formatter, tallies: &[&Tally]) -> fmt::Result {
+    tallies
+        .iter()
+        .try_for_each(|tally| write!(lines, "{tally}"))
+}
+
 impl fmt::Display for Tally {
     fn fmt(&self, lines: &mut fmt::Formatter) -> fmt::Result {
         let names: Vec<&str> = self.names.iter().map(String::as_str).collect();

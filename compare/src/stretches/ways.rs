@@ -4,6 +4,7 @@ use super::counts::Counts;
 use crate::drawings::Board;
 use crate::others::Others;
 use crate::random::Random;
+use model::codes::{self, Code};
 use model::{image, Drawing};
 
 /// The most positions of a drawing that is cut at every one of them.
@@ -31,7 +32,7 @@ pub fn all(
     Ok(positions)
 }
 
-/// Puts a block at any counters where a position remains, by an image; its pointers stay.
+/// Puts a drawing at any counters where a position remains, by an image; its pointers stay.
 pub fn put_elsewhere(
     random: &mut Random,
     board: &mut Board,
@@ -40,10 +41,20 @@ pub fn put_elsewhere(
     let mut state = board.pair.plain.clone();
     let registers = &state.registers;
     let mut upto = |last: u16| random.below(u32::from(last) + 1) as u16;
-    if let Drawing::Block { column, row } = &mut state.drawing {
-        (*column, *row) = (upto(registers.dimension_1), upto(registers.dimension_2));
-        counts.put_elsewhere += 1;
+    match &mut state.drawing {
+        Drawing::Block { column, row } => {
+            (*column, *row) = (upto(registers.dimension_1), upto(registers.dimension_2));
+        }
+        Drawing::Line { done, .. } => *done = upto(registers.dimension_1),
+        Drawing::Codes { count, code, done } => {
+            let codes = codes::of_write(registers.steps, *count);
+            let drawn = codes.iter().take_while(|byte| **byte != codes::STOP);
+            *code = upto(drawn.count() as u16 - 1);
+            *done = upto(Code::of(codes[usize::from(*code)]).steps);
+        }
+        Drawing::Fill { .. } | Drawing::Nothing { .. } => return Ok(()),
     }
+    counts.put_elsewhere += 1;
     let image = image::of(&state);
     match board.pair.load(&image, &mut board.memories)? {
         0 => Ok(()),

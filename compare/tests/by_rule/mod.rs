@@ -1,17 +1,24 @@
-//! Drawing by the rule of stretches, whole bytes at once, with a mistake if asked.
+//! Drawing by the rule of stretches, whole bytes and pixels read first, with a mistake if asked.
 
+mod apart;
+mod strokes;
+
+use compare::stretches::bars::{self, Bar};
 use compare::stretches::parts::Parts;
-use compare::stretches::rule::{self, Bar, Piece, Standing};
+use compare::stretches::places::{self, Place};
+use compare::stretches::rule::{self, Kind, Piece, Standing};
 use model::{mixes, moves, Coprocessor, Registers};
 
 /// What may be done wrong.
 #[derive(Clone, Copy, Debug, PartialEq, Eq)]
 pub enum Mistake {
-    NoRowsEnd,
+    /// Of a row, line or code.
+    NoEnd,
     NoAllowance,
     NoMapEdge,
     NoMaskEdge,
-    NoSourceWrap,
+    /// Of a source or pattern.
+    NoWrap,
     AnyPhase,
     OutsideMask,
     /// Though there is a bar.
@@ -25,20 +32,38 @@ pub enum Mistake {
     WideColour,
     /// The bytes of ragged ends are drawn whole.
     WholeEnds,
+    /// Ranges that share bytes, or one byte, are taken for apart.
+    Shared,
+    OneShared,
+    /// What is read is taken in Intel order.
+    IntelOrder,
+    /// A pattern is taken from the first pixel of a byte.
+    PatternByte,
+    NoBackground,
+    /// Another step after the last position of a line or code.
+    LastStep,
+    /// E does not come round.
+    EndlessE,
+    MoveDrawn,
 }
 
-pub const MISTAKES: [Mistake; 18] = [
-    Mistake::NoRowsEnd,
+pub const MISTAKES: [Mistake; 31] = [
+    Mistake::NoEnd,
     Mistake::NoAllowance,
     Mistake::NoMapEdge,
     Mistake::NoMaskEdge,
-    Mistake::NoSourceWrap,
+    Mistake::NoWrap,
     Mistake::AnyPhase,
     Mistake::OutsideMask,
+    Mistake::Barred(Bar::ReadForm),
     Mistake::Barred(Bar::Pattern),
+    Mistake::Barred(Bar::Bits),
+    Mistake::Barred(Bar::Source),
     Mistake::Barred(Bar::MaskMap),
     Mistake::Barred(Bar::Compare),
     Mistake::Barred(Bar::Arithmetic),
+    Mistake::Barred(Bar::Background),
+    Mistake::Barred(Bar::Mode),
     Mistake::Barred(Bar::Format),
     Mistake::ReadFirst,
     Mistake::OtherWay,
@@ -46,16 +71,24 @@ pub const MISTAKES: [Mistake; 18] = [
     Mistake::MixIsSource,
     Mistake::WideColour,
     Mistake::WholeEnds,
+    Mistake::Shared,
+    Mistake::OneShared,
+    Mistake::IntelOrder,
+    Mistake::PatternByte,
+    Mistake::NoBackground,
+    Mistake::LastStep,
+    Mistake::EndlessE,
+    Mistake::MoveDrawn,
 ];
 
-/// Runs at most so many positions: how many it did, or nothing where a mistake leads out of the memory.
+/// Runs at most so many positions: how many it did, or nothing where a mistake leads out of the memory or to a record that is refused.
 pub fn run(
     state: &mut Coprocessor,
     memory: &mut [u8],
     allowance: u32,
     mistake: Option<Mistake>,
 ) -> Option<u32> {
-    let bar = rule::bar(&state.registers);
+    let bar = bars::bar(&state.registers);
     if bar.is_some() && bar.map(Mistake::Barred) != mistake {
         return Some(state.run(memory, allowance).1);
     }
@@ -63,9 +96,8 @@ pub fn run(
     while done < allowance && state.drawing.is_unfinished() {
         let piece = piece(state, allowance - done, mistake);
         match piece {
-            Piece::Singles(length) => {
-                state.run(memory, length);
-            }
+            Piece::Singles(length) if state.run(memory, length) == (0, length) => {}
+            Piece::Singles(_) => return None,
             Piece::Stretch(length, _) => stretch(state, memory, length, mistake)?,
         }
         done += piece.length();
@@ -75,25 +107,49 @@ pub fn run(
 
 /// The next positions.
 fn piece(state: &Coprocessor, allowance: u32, mistake: Option<Mistake>) -> Piece {
-    let is_fit = match rule::standing(&state.registers) {
+    let is_fit = match rule::standing(state, allowance) {
         Standing::Fit => true,
-        Standing::OtherPhase => mistake == Some(Mistake::AnyPhase),
+        Standing::Shared => match mistake {
+            Some(Mistake::AnyPhase) => rule::kind(state) == Kind::Slide,
+            Some(Mistake::Shared) => true,
+            Some(Mistake::OneShared) => apart::shares_one(state, allowance),
+            _ => false,
+        },
         Standing::OutsideMask => mistake == Some(Mistake::OutsideMask),
-        Standing::OutsideMap => false,
+        Standing::Moved => {
+            mistake == Some(Mistake::MoveDrawn) && rule::outside(&state.registers).is_none()
+        }
+        Standing::OutsideMap | Standing::AtEdge => false,
     };
-    if !is_fit {
-        return rule::piece(state, allowance);
+    let stretch = is_fit.then(|| seen(state, allowance, mistake));
+    match stretch.filter(|stretch| stretch.length() > 0) {
+        Some(stretch) => stretch,
+        None => rule::piece(state, allowance),
     }
+}
+
+/// The stretch as it is seen with a mistake.
+fn seen(state: &Coprocessor, allowance: u32, mistake: Option<Mistake>) -> Piece {
     let mut seen = state.clone();
     let fields = seen.registers.fields();
     let maps = &mut seen.registers.maps;
+    let read = match fields.uses_pattern() {
+        true => fields.pattern,
+        false => fields.source % 4,
+    };
     let mut allowance = allowance;
     match mistake {
-        Some(Mistake::NoRowsEnd) => seen.registers.dimension_1 = 4_095,
+        Some(Mistake::NoEnd) => {
+            seen.registers.dimension_1 = 4_095;
+            seen.registers.steps |= 0x0F0F_0F0F;
+        }
         Some(Mistake::NoAllowance) => allowance = u32::MAX,
-        Some(Mistake::NoMapEdge) => maps[fields.destination as usize].width = 4_095,
+        Some(Mistake::NoMapEdge) => {
+            let map = &mut maps[fields.destination as usize];
+            (map.width, map.height) = (4_095, 4_095);
+        }
         Some(Mistake::NoMaskEdge | Mistake::OutsideMask) => seen.registers.operations &= !0xC0,
-        Some(Mistake::NoSourceWrap) => maps[fields.source as usize % 4].width = 4_095,
+        Some(Mistake::NoWrap) => maps[read as usize].width = 4_095,
         _ => {}
     }
     rule::stretch(&seen, allowance)
@@ -106,16 +162,28 @@ fn stretch(
     length: u32,
     mistake: Option<Mistake>,
 ) -> Option<()> {
+    match rule::kind(state) {
+        Kind::Stroke => strokes::draw(state, memory, length, mistake),
+        Kind::Solid | Kind::Copy => draw_bytes(state, memory, length, mistake),
+        Kind::Slide if mistake == Some(Mistake::AnyPhase) => {
+            draw_bytes(state, memory, length, mistake)
+        }
+        Kind::Slide | Kind::Pattern => apart::draw(state, memory, length, mistake),
+    }
+}
+
+/// Draws a stretch as whole bytes and ragged ends.
+fn draw_bytes(
+    state: &mut Coprocessor,
+    memory: &mut [u8],
+    length: u32,
+    mistake: Option<Mistake>,
+) -> Option<()> {
     let registers = &state.registers;
-    let map = registers.map(registers.fields().destination);
-    let in_byte = 8 / map.bits();
-    let at = (
-        registers.destination_x as u32,
-        registers.destination_y as u32,
-    );
-    let place = (rule::bit(map, at) / u64::from(map.bits())) as u32 % in_byte;
+    let to = places::destination(registers);
+    let in_byte = 8 / to.map.bits();
     let is_back = registers.fields().x_sign() < 0;
-    let mut parts = Parts::of(length, place, in_byte, is_back);
+    let mut parts = Parts::of(length, to.in_byte(), in_byte, is_back);
     if mistake == Some(Mistake::WholeEnds) {
         parts = Parts {
             before: 0,
@@ -125,13 +193,18 @@ fn stretch(
     }
     state.run(memory, parts.before);
     whole_bytes(state, memory, parts.whole.div_ceil(in_byte), mistake)?;
-    for _ in 0..parts.whole {
+    pass(state, parts.whole);
+    state.run(memory, parts.after);
+    Some(())
+}
+
+/// Passes over so many positions.
+fn pass(state: &mut Coprocessor, length: u32) {
+    for _ in 0..length {
         if state.drawing.is_unfinished() {
             state.drawing = moves::advance(&mut state.registers, state.drawing, true);
         }
     }
-    state.run(memory, parts.after);
-    Some(())
 }
 
 /// Draws so many whole bytes; nothing where they lead out of the memory.
@@ -142,23 +215,12 @@ fn whole_bytes(
     mistake: Option<Mistake>,
 ) -> Option<()> {
     let registers = &state.registers;
-    let fields = registers.fields();
-    let (to, from) = (
-        registers.map(fields.destination),
-        registers.map(fields.source),
-    );
-    let to_at = (
-        registers.destination_x as u32,
-        registers.destination_y as u32,
-    );
-    let from_at = (registers.source_x.into(), registers.source_y.into());
-    let byte = |map: &model::Map, at, on: i64| {
-        let first = i64::from(map.base) + (rule::bit(map, at) / 8) as i64;
-        usize::try_from(first + fields.x_sign() * on).ok()
-    };
+    let [from, to] = [places::source(registers), places::destination(registers)];
+    let x_sign = registers.fields().x_sign();
+    let byte = |place: &Place, on: i64| usize::try_from(place.byte() as i64 + x_sign * on).ok();
     let planes = match mistake {
         Some(Mistake::NoPlanes) => 0xFF,
-        _ => repeated(registers.plane_mask, to.bits()),
+        _ => repeated(registers.plane_mask, to.map.bits()),
     };
     let mix = match mistake {
         Some(Mistake::MixIsSource) => 3,
@@ -176,11 +238,11 @@ fn whole_bytes(
                     Some(Mistake::ReadFirst) => &before,
                     _ => memory,
                 };
-                u32::from(*read.get(byte(from, from_at, on)?)?)
+                u32::from(*read.get(byte(&from, on)?)?)
             }
-            false => colour(registers, to.bits(), mistake),
+            false => colour(registers, to.map.bits(), mistake),
         };
-        let place = memory.get_mut(byte(to, to_at, on)?)?;
+        let place = memory.get_mut(byte(&to, on)?)?;
         *place = mixes::mix(mix, 8, planes, source, (*place).into()) as u8;
     }
     Some(())

@@ -16,11 +16,11 @@ use Rattle.rules.proofs.PointerLaws.{inside-x}
 use Rattle.moves.specs.declared.Turn.the-variants.{Stay, Forth, Back}
 use Rattle.moves.specs.declared.Travel.{Travel}
 use Rattle.moves.specs.declared.Pen.{Pen}
-use Rattle.moves.specs.Turns.{turnedBy, circledBy, pointStepped, spotStepped}
-use Rattle.moves.specs.Moves.{penStepped, columnPassed}
-use Rattle.moves.specs.Inner.{pointersInside, columnsPassed}
-use Rattle.moves.proofs.TurnLaws.{turned-none, turned-more, back-inside}
-use Rattle.moves.proofs.CircledLaws.{OnCircle, circled-on, residue-circled, circled-none, circled-more, same-place}
+use Rattle.moves.specs.Turns.{opposite, turnedBy, circledBy, pointStepped, spotStepped}
+use Rattle.moves.specs.Moves.{penStepped, columnPassed, rowPoint, rowSpot, rowPassed}
+use Rattle.moves.specs.Inner.{pointersInside, columnsPassed, returned, rowReturned}
+use Rattle.moves.proofs.TurnLaws.{turned-none, turned-add, turned-return, turned-more, back-inside}
+use Rattle.moves.proofs.CircledLaws.{OnCircle, circled-on, residue-circled, circled-none, circled-add, circled-return, circled-more, same-place}
 use Rattle.moves.proofs.Kept.{turned-inside, source-in, pattern-in}
 
 -- ---- one after another
@@ -86,6 +86,53 @@ columns-inside s k d pen h =
         → (not used || isInside map (record { x = choose used (turnedBy (s .course .x) k (map .width) (p .x)) (p .x); y = p .y })) ≡ true
     by true map p within = turned-inside map (s .course .x) Stay k 0 p within
     by false map p within = refl
+
+-- ---- back to a row's start
+
+module _ (s : Travel) (pen : Pen) (on : OnCircle (pen .pointers .destination .x)) (inside : pointersInside s pen ≡ true) (k : ℕ)
+    (few : k ≤ s .figure .dimensions .x) where
+  abbrev last : ℕ
+  last = s .figure .dimensions .x
+
+  rest : last ≡ last - k + k
+  rest = omega arith
+
+  -- a pointer that is used, or not
+  point-returned : (used : Bool) (map : Map) (p : Point) → (used ≡ true → p .x ≤ map .width)
+      → let q : Point = record { x = choose used (turnedBy (s .course .x) k (map .width) (p .x)) (p .x); y = p .y } in
+      choose used (rowPoint s map q) q ≡ returned s (last - k) used map p
+  unfolding rowPoint
+  point-returned true map p h =
+      let t = s .course .x in
+      let there = turnedBy t k (map .width) (p .x) in
+      let back = ap (λ (n : ℕ). turnedBy (opposite t) n (map .width) there) rest
+      ∙ turned-add (map .width) (opposite t) (last - k) k there
+      ∙ ap (turnedBy (opposite t) (last - k) (map .width)) (turned-return (map .width) t k (p .x) (h refl)) in
+      λ i. record { x = back i; y = turnedBy (s .course .y) 1 (map .height) (p .y) }
+  point-returned false map p h = refl
+
+  -- from k columns on, a row's end is reached and left at once
+  pub row-returned : (d d' : Drawing) → rowPassed s d (columnsPassed s k d' pen) ≡ rowReturned s (last - k) d pen
+  unfolding rowPassed rowSpot columnsPassed rowReturned
+  row-returned d d' =
+      let t = s .course .x in
+      let x = pen .pointers .destination .x in
+      let across = ap (λ (n : ℕ). circledBy (opposite t) n (circledBy t k x)) rest
+      ∙ circled-add (opposite t) (circledBy t k x) (circled-on t k x on) (last - k) k
+      ∙ ap (circledBy (opposite t) (last - k)) (circled-return t x on k) in
+      λ i.
+      record {
+        pointers = record {
+          source = point-returned (s .source .used) (s .source .map) (pen .pointers .source) (λ used. inside-x _ _ (source-in s pen inside used)) i;
+          pattern = point-returned (s .pattern .used) (s .pattern .map) (pen .pointers .pattern) (λ used. inside-x _ _ (pattern-in s pen inside used)) i;
+          destination = record {
+            x = across i;
+            y = circledBy (choose (s .course .inverts) (opposite (s .course .y)) (s .course .y)) 1 (pen .pointers .destination .y);
+          };
+        };
+        e = pen .e;
+        drawing = d;
+      }
 
 -- ---- where none wraps
 

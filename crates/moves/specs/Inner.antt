@@ -5,6 +5,8 @@ use mathlib.Core.Bool.{Bool, not, _&&_, _||_}
 use lib.IntN.{ℤ}
 use Rattle.numbers.specs.Choose.{choose}
 use Rattle.numbers.specs.Circles.{circle}
+use Rattle.pixels.specs.declared.Map.{Map}
+use Rattle.parts.specs.declared.shapes.Point.{Point}
 use Rattle.parts.specs.declared.drawing.Drawing.{Drawing}
 use Rattle.rules.specs.Maps.{isInside}
 use Rattle.moves.specs.declared.Step.{Step}
@@ -12,7 +14,7 @@ use Rattle.moves.specs.declared.Way.{Way}
 use Rattle.moves.specs.declared.Way.the-variants.{Along, Column, Row, Here}
 use Rattle.moves.specs.declared.Travel.{Travel}
 use Rattle.moves.specs.declared.Pen.{Pen}
-use Rattle.moves.specs.Turns.{turnedBy, circledBy, spotStepped}
+use Rattle.moves.specs.Turns.{opposite, turnedBy, circledBy, spotStepped}
 use Rattle.moves.specs.Moves.{penStepped, penWith, columnPassed, rowPassed}
 
 -- the pen after going this way: its used pointers stepped, at the next column, past a row's end, or as it is with another drawing in hand
@@ -56,6 +58,30 @@ columnsPassed s k drawing pen =
           y = pen .pointers .pattern .y;
         };
         destination = record { x = circledBy (s .course .x) k (pen .pointers .destination .x); y = pen .pointers .destination .y };
+      };
+      e = pen .e;
+      drawing = drawing;
+    }
+
+-- a pointer there
+abbrev pub returned : Travel → ℕ → Bool → Map → Point → Point
+returned s k used map p =
+    record {
+      x = choose used (turnedBy (opposite (s .course .x)) k (map .width) (p .x)) (p .x);
+      y = choose used (turnedBy (s .course .y) 1 (map .height) (p .y)) (p .y);
+    }
+
+-- the pen at the start of the next row, from k columns into this one; unused pointers stay
+unfoldable pub rowReturned : Travel → ℕ → Drawing → Pen → Pen
+rowReturned s k drawing pen =
+    record {
+      pointers = record {
+        source = returned s k (s .source .used) (s .source .map) (pen .pointers .source);
+        pattern = returned s k (s .pattern .used) (s .pattern .map) (pen .pointers .pattern);
+        destination = record {
+          x = circledBy (opposite (s .course .x)) k (pen .pointers .destination .x);
+          y = circledBy (choose (s .course .inverts) (opposite (s .course .y)) (s .course .y)) 1 (pen .pointers .destination .y);
+        };
       };
       e = pen .e;
       drawing = drawing;

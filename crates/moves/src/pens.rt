@@ -4,7 +4,7 @@ ghost use Prim.Native.Nat.{_≤_};
 ghost use Rattle.numbers.specs.Choose.{choose};
 ghost use Rattle.moves.specs.Turns as turned;
 ghost use Rattle.moves.specs.Moves as defined;
-ghost use Rattle.moves.specs.Inner.{pointersInside, destinationStepped, columnsPassed};
+ghost use Rattle.moves.specs.Inner.{pointersInside, destinationStepped, columnsPassed, rowReturned};
 use crate::Course;
 use crate::Pen;
 use crate::Travel;
@@ -232,6 +232,61 @@ pub fn pass_columns(travel: Travel, count: u16, drawing: Drawing, pen: Pen) -> P
     }
 }
 
+// The pen at the start of the next row, from so many columns into this one.
+pub fn return_row(travel: Travel, columns: u16, drawing: Drawing, pen: Pen) -> Pen
+    requires { ⌜ pointersInside travel pen ≡ true ⌝ }
+    ensures { λ r. ⌜ r ≡ rowReturned travel columns drawing pen ⌝ }
+{
+    let course = travel.course;
+    let right = course.x;
+    let across = opposite(right);
+    let down = course.y;
+    let source = Point {
+        x: turn_used_by(
+            travel.source.used,
+            across,
+            columns,
+            travel.source.map.width,
+            pen.pointers.source.x,
+        ),
+        y: turn_used(
+            travel.source.used,
+            down,
+            travel.source.map.height,
+            pen.pointers.source.y,
+        ),
+    };
+    let pattern = Point {
+        x: turn_used_by(
+            travel.pattern.used,
+            across,
+            columns,
+            travel.pattern.map.width,
+            pen.pointers.pattern.x,
+        ),
+        y: turn_used(
+            travel.pattern.used,
+            down,
+            travel.pattern.map.height,
+            pen.pointers.pattern.y,
+        ),
+    };
+    let destination = Spot {
+        x: circle_by(across, columns, pen.pointers.destination.x),
+        y: circle_by(destination_down(course), 1, pen.pointers.destination.y),
+    };
+    let pointers = Pointers {
+        source,
+        pattern,
+        destination,
+    };
+    Pen {
+        pointers,
+        e: pen.e,
+        drawing,
+    }
+}
+
 // The pen with another drawing in hand.
 pub(crate) fn pen_with(drawing: Drawing, pen: Pen) -> Pen
     ensures { λ r. ⌜ r ≡ defined.penWith drawing pen ⌝ }
@@ -293,7 +348,7 @@ fn return_by(travel: Travel, x: i16) -> i16
 }
 
 // The pen after a row.
-pub fn pass_row(travel: Travel, drawing: Drawing, pen: Pen) -> Pen
+pub(crate) fn pass_row(travel: Travel, drawing: Drawing, pen: Pen) -> Pen
     requires { ⌜ pointersInside travel pen ≡ true ⌝ }
     ensures { λ r. ⌜ r ≡ defined.rowPassed travel drawing pen ⌝ }
 {

@@ -91,7 +91,7 @@ fn line_way(travel: Travel, done: u16, pen: Pen) -> Way
 }
 
 // The drawing after a code's last position: the next code, a stop at 00, or nothing where no code is left.
-fn pass_code(steps: u32, count: u8, code: u16) -> Drawing
+pub fn pass_code(steps: u32, count: u8, code: u16) -> Drawing
     ensures { λ r. ⌜ r ≡ defined.codePassed steps count code ⌝ }
 {
     if code as u32 + 1 < count as u32 {

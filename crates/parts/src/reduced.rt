@@ -19,7 +19,7 @@ pub fn map_is_reduced(map: Map) -> bool
 }
 
 // Whether E, K1 or K2 is from -8,192 to 8,191.
-fn term_is_reduced(z: i32) -> bool
+pub fn term_is_reduced(z: i32) -> bool
     ensures { λ r. ⌜ r ≡ defined.termReduced z ⌝ }
 {
     (-8192 <= z) & (z < 8192)

@@ -4,21 +4,21 @@ use mathlib.Core.Bool.{Bool, true, false}
 use mathlib.Core.List.{List}
 use mathlib.Core.Logic.{_⊎_, inl, inr, ⊎-elim}
 use Prim.Native.Nat.{ℕ, zero, suc, _+_, _-_, _*_, _/_, _%_, _^_, _≤_, _<_}
-use native.Mathlib.Nat.{add-mul, suc-mul, zero-mul, mul-le-mul-right}
+use native.Mathlib.Nat.{add-mul, suc-mul, zero-mul, mul-le-mul-right, mod-eq-of-lt}
 use native.Mathlib.Omega.{arith}
-use lib.ListN.{length, getD, set}
+use lib.ListN.{getD}
 use lib.Pow.{pow-pos}
-use lib.Seq.{set-set, set-getD, getD-set-same, getD-set-other}
+use Rattle.numbers.specs.Choose.{choose}
 use Rattle.numbers.specs.Fields.{field, withField}
+use Rattle.numbers.proofs.Choices.{choose-either}
 use Rattle.numbers.proofs.Fields.{field-with-same, field-with-other, field-with-field, with-field-lt}
-use Rattle.numbers.proofs.Order.{lt-or-le, eq-or-ne}
-use Rattle.pixels.specs.Maps.{bitsOf}
+use Rattle.numbers.proofs.Order.{lt-or-le}
+use Rattle.pixels.specs.Maps.{bitsOf, isMotorola}
+use Rattle.pixels.specs.Inner.{placeAt, shiftAt}
 use Rattle.pixels.proofs.Maps.{by-size}
 use Rattle.pixels.proofs.Bytes.{full, byte-told}
-use Rattle.pixels.specs.Inner.{placeAt}
-use Rattle.rows.specs.declared.Lane.{Lane}
-use Rattle.rows.specs.Inner.{Alike, swept, First, Passed, fromTop, edgeFrom}
-use Rattle.rows.proofs.LaneLaws.{shiftFrom, first-passed, in-byte-of, ends-within, shift-of}
+use Rattle.rows.specs.Inner.{Alike, edgeFrom}
+use Rattle.rows.proofs.LaneLaws.{shiftFrom, ends-within}
 
 -- ---- one byte, field by field
 
@@ -29,13 +29,17 @@ top format i =
     by-size (λ (k : ℕ). i * 2 ^ k < 8 → 8 - 2 ^ k - i * 2 ^ k ≡ (8 / 2 ^ k - 1 - i) * 2 ^ k)
     (λ few. omega arith) (λ few. omega arith) (λ few. omega arith) (λ few. omega arith) format
 
-bits-some : (format : ℕ) → 0 < bitsOf format
+pub bits-some : (format : ℕ) → 0 < bitsOf format
 unfolding bitsOf
 bits-some format = pow-pos (format % 4)
 
 pub per-some : (format : ℕ) → 0 < 8 / bitsOf format
 unfolding bitsOf
 per-some = by-size (λ (k : ℕ). 0 < 8 / 2 ^ k) (omega arith) (omega arith) (omega arith) (omega arith)
+
+-- fewer pixels than a byte has begin in it
+pub begins : (format a k : ℕ) → a < k → k * bitsOf format ≤ 8 → a * bitsOf format < 8
+begins format a k less few = omega (arith, mul-le-mul-right (bitsOf format) less, suc-mul a (bitsOf format), bits-some format)
 
 -- pixels of one byte, passed and made, by their bits and by their number
 pub edge-bits : (format g k : ℕ) → (g + k) * bitsOf format ≤ 8 → (g * bitsOf format + k * bitsOf format ≤ 8) × (g + k ≤ 8)
@@ -110,7 +114,7 @@ module _ (t : Bool) (format : ℕ) (op whole : ℕ → ℕ → ℕ) (alike : Ali
       with-field-lt (sh (g + i)) bits _ (part i) 8 (within t (g + i) (few (g + i) (omega arith))) (part-lt i (λ k h. few k (omega arith)))
 
   -- the fields of the byte that is made at once
-  whole-field : (t : Bool) (i : ℕ) → i * bits < 8
+  pub whole-field : (t : Bool) (i : ℕ) → i * bits < 8
       → field (shiftFrom t bits i) bits (whole S b) ≡ op (field (shiftFrom t bits i) bits S) (field (shiftFrom t bits i) bits b) % 2 ^ bits
   whole-field false i few = alike i S b few
   whole-field true i few =
@@ -129,7 +133,7 @@ module _ (t : Bool) (format : ℕ) (op whole : ℕ → ℕ → ℕ) (alike : Ali
     edge = withField (edgeFrom t bits g k) (k * bits) (field (edgeFrom t bits g k) (k * bits) (whole S b)) b
 
     fits : (i : ℕ) → i < g + k → i * bits < 8
-    fits i less = omega (arith, mul-le-mul-right bits less, suc-mul i bits, bits-some format)
+    fits i less = begins format i (g + k) less few
 
     -- a pixel that is made
     inside : (t : Bool) (j : ℕ) → g ≤ j → j < g + k → (edgeFrom t bits g k ≤ shiftFrom t bits j) × (shiftFrom t bits j + bits ≤ edgeFrom t bits g k + k * bits)
@@ -173,93 +177,49 @@ module _ (t : Bool) (format : ℕ) (op whole : ℕ → ℕ → ℕ) (alike : Ali
     part-edge =
         byte-told t (part k) edge (part-lt k fits) (with-field-lt (edgeFrom t bits g k) (k * bits) _ b 8 (edge-low t format g k few) byte) format field-same
 
--- ---- the byte of a lane
+-- ---- all of a byte
 
 -- every byte of a memory is one
 abbrev pub Bytes : List ℕ → Type 0
 Bytes m = (j : ℕ) → getD m j 0 < 256
 
-module _ (op whole : ℕ → ℕ → ℕ) (l : Lane) (alike : Alike (l .format) op whole) (m : List ℕ) (bytes : Bytes m) (g : ℕ)
-    (from : Passed (l .back) (l .format) (l .from) g) (to : Passed (l .back) (l .format) (l .to) g)
-    (held : placeAt (l .format) (l .destination) (l .to) < length m) where
-  abbrev J : ℕ
-  J = placeAt (l .format) (l .destination) (l .to)
+-- a byte is its only field of 8 bits
+pub byte-field : (b : ℕ) → b < 256 → field 0 8 b ≡ b
+unfolding field
+byte-field b small = omega arith
 
-  abbrev J' : ℕ
-  J' = placeAt (l .format) (l .source) (l .from)
+pub byte-with : (v b : ℕ) → b < 256 → withField 0 8 v b ≡ v % 256
+unfolding withField
+byte-with v b small = omega arith
 
-  abbrev n : ℕ
-  n = bitsOf (l .format)
+-- and lies there alone
+pub byte-place : (format base y : ℕ) → bitsOf format ≡ 8 → placeAt format base y ≡ base + y
+byte-place format base y eight = let whole : base + y * 8 / 8 ≡ base + y = omega arith in ap (λ (b : ℕ). base + y * b / 8) eight ∙ whole
 
-  abbrev top? : Bool
-  top? = fromTop (l .back) (l .format)
+pub byte-shift : (format y : ℕ) → bitsOf format ≡ 8 → shiftAt format y ≡ 0
+byte-shift format y eight =
+    (λ j. choose (isMotorola format) (8 - eight j - y * eight j % 8) (y * eight j % 8))
+    ∙ choose-either (λ (x : ℕ). x ≡ 0) (isMotorola format) (omega arith) (omega arith)
 
-  abbrev some : ℕ → ℕ
-  some i = part top? (l .format) op whole alike g (getD m J' 0) (getD m J 0) (bytes J) i
-
-  -- one pixel of a byte, made of one of another byte and itself
-  abbrev put : (p s p' s' : ℕ) → List ℕ → List ℕ
-  put p s p' s' memory = set memory p (withField s n (op (field s' n (getD memory p' 0)) (field s n (getD memory p 0))) (getD memory p 0))
-
-  put-next : (i : ℕ) → (g + i) * n < 8 → let sh = shiftFrom top? n (g + i) in
-      put J sh J' sh (set m J (some i)) ≡ set m J (withField sh n (op (field sh n (getD m J' 0)) (field sh n (getD m J 0))) (some i))
-  put-next i few =
-      let sh = shiftFrom top? n (g + i) in
-      let b' : getD (set m J (some i)) J 0 ≡ some i = getD-set-same m J (some i) 0 held in
-      let old : field sh n (some i) ≡ field sh n (getD m J 0) =
-      untouched top? (l .format) op whole alike g (getD m J' 0) (getD m J 0) (bytes J) i (g + i) (omega arith) few in
-      let source : field sh n (getD (set m J (some i)) J' 0) ≡ field sh n (getD m J' 0) =
-      ⊎-elim (λ (same : J' ≡ J).
-      ap (λ (q : ℕ). field sh n (getD (set m J (some i)) q 0)) same ∙ ap (field sh n) b' ∙ old ∙ ap (λ (q : ℕ). field sh n (getD m q 0)) (sym same)) (λ ne. ap (field sh n) (getD-set-other m J J' (some i) 0 ne)) (eq-or-ne J' J) in
-      set-set m J (some i) _
-      ∙ (λ j. set m J (withField sh n (op (source j) ((ap (field sh n) b' ∙ old) j)) (b' j)))
-
-  -- i pixels of the byte
-  swept-part : (i : ℕ) → ((k : ℕ) → k < g + i → k * n < 8) → swept op l i m ≡ set m J (some i)
-  unfolding swept part
-  swept-part zero few = sym (set-getD m J 0)
-  swept-part (suc i) few =
-      let fits = few (g + i) (omega arith) in
-      let before = swept-part i (λ k h. few k (omega arith)) in
-      let P = ap (λ (q : ℕ). l .destination + q) (in-byte-of (l .format) (l .to) g i fits (l .back) to .0) in
-      let P' = ap (λ (q : ℕ). l .source + q) (in-byte-of (l .format) (l .from) g i fits (l .back) from .0) in
-      let Q = shift-of (l .format) (l .to) g i fits (l .back) to in
-      let Q' = shift-of (l .format) (l .from) g i fits (l .back) from in
-      (λ j. put (P j) (Q j) (P' j) (Q' j) (before j)) ∙ put-next i fits
-
-  -- so many of them are one field
-  pub swept-edge : (k : ℕ) → (g + k) * n ≤ 8
-      → let low = edgeFrom top? n g k in
-      swept op l k m ≡ set m J (withField low (k * n) (field low (k * n) (whole (getD m J' 0) (getD m J 0))) (getD m J 0))
-  swept-edge k few =
-      swept-part k (fits top? (l .format) op whole alike g (getD m J' 0) (getD m J 0) (bytes J) k few)
-      ∙ ap (set m J) (part-edge top? (l .format) op whole alike g (getD m J' 0) (getD m J 0) (bytes J) k few)
-
--- and all of them the byte
-pub swept-byte : (op whole : ℕ → ℕ → ℕ) (l : Lane) → Alike (l .format) op whole → (m : List ℕ) → Bytes m
-    → First (l .back) (l .format) (l .from) → First (l .back) (l .format) (l .to) → placeAt (l .format) (l .destination) (l .to) < length m
-    → let J = placeAt (l .format) (l .destination) (l .to) in
-    let J' = placeAt (l .format) (l .source) (l .from) in
-    whole (getD m J' 0) (getD m J 0) < 256 → swept op l (8 / bitsOf (l .format)) m ≡ set m J (whole (getD m J' 0) (getD m J 0))
-unfolding withField field
-swept-byte op whole l alike m bytes from to held made =
-    let J = placeAt (l .format) (l .destination) (l .to) in
-    let J' = placeAt (l .format) (l .source) (l .from) in
-    let W = whole (getD m J' 0) (getD m J 0) in
-    let b = getD m J 0 in
-    let per = 8 / bitsOf (l .format) in
-    let eight : per * bitsOf (l .format) ≡ 8 = full (l .format) in
-    let nought : 0 + per ≡ per = omega arith in
-    let all : (0 + per) * bitsOf (l .format) ≡ 8 = ap (λ (k : ℕ). k * bitsOf (l .format)) nought ∙ eight in
-    let low = edgeFrom (fromTop (l .back) (l .format)) (bitsOf (l .format)) 0 per in
-    let start : low ≡ 0 = by (fromTop (l .back) (l .format)) all in
-    swept-edge op whole l alike m bytes 0 (first-passed (l .back) (l .format) (l .from) from) (first-passed (l .back) (l .format) (l .to) to) held per
-    (omega (arith, all))
-    ∙ ap (set m J) ((λ j. withField (start j) (eight j) (field (start j) (eight j) W) b) ∙ put b W (bytes J) made)
+-- a byte with all its pixels put is the one that they are of
+pub all-put : (t : Bool) (format b W : ℕ) → b < 256 → W < 256
+    → let per = 8 / bitsOf format in
+    let low = edgeFrom t (bitsOf format) 0 per in withField low (per * bitsOf format) (field low (per * bitsOf format) W) b ≡ W
+all-put t format b W small small' =
+    let eight : 8 / bitsOf format * bitsOf format ≡ 8 = full format in
+    let start = by t (ap (λ (k : ℕ). k * bitsOf format) nought ∙ eight) in
+    (λ j. withField (start j) (eight j) (field (start j) (eight j) W) b)
+    ∙ byte-with (field 0 8 W) b small
+    ∙ ap (λ (v : ℕ). v % 256) (byte-field W small')
+    ∙ mod-eq-of-lt small'
   where
-    by : (t : Bool) → (0 + 8 / bitsOf (l .format)) * bitsOf (l .format) ≡ 8 → edgeFrom t (bitsOf (l .format)) 0 (8 / bitsOf (l .format)) ≡ 0
-    by true all = omega arith
-    by false all = zero-mul (bitsOf (l .format))
+    nought : 0 + 8 / bitsOf format ≡ 8 / bitsOf format
+    nought = omega arith
 
-    put : (b W : ℕ) → b < 256 → W < 256 → b / 2 ^ (0 + 8) * 2 ^ (0 + 8) + W / 2 ^ 0 % 2 ^ 8 % 2 ^ 8 * 2 ^ 0 + b % 2 ^ 0 ≡ W
-    put b W small small' = omega arith
+    by : (t : Bool) → (0 + 8 / bitsOf format) * bitsOf format ≡ 8 → edgeFrom t (bitsOf format) 0 (8 / bitsOf format) ≡ 0
+    by true all = omega arith
+    by false all = zero-mul (bitsOf format)
+
+-- as many as a byte has, and none before, are in it
+pub all-in : (format : ℕ) → (0 + 8 / bitsOf format) * bitsOf format ≤ 8
+all-in format = omega (arith, full format, add-mul 0 (8 / bitsOf format) (bitsOf format), zero-mul (bitsOf format))

@@ -1,6 +1,15 @@
 pub mod WholeLaws
 pub mod LaneLaws
 pub mod ByteLaws
+pub mod EdgeLaws
 pub mod CarryLaws
 pub mod SweepLaws
 pub mod LiesLaws
+pub mod RangeLaws
+pub mod JoinLaws
+pub mod ApartLaws
+pub mod GatherLaws
+pub mod SlideLaws
+pub mod TraceLaws
+pub mod PatternLaws
+pub mod MeetsLaws

@@ -1,15 +1,15 @@
 -- What a lane that lies in a memory has: each pixel in the phase of the one that it comes from, and the same for a part of it.
-use mathlib.Core.Path.{_≡_, sym, ap, subst, _∙_}
+use mathlib.Core.Path.{_≡_, refl, sym, ap, subst, _∙_}
 use mathlib.Core.Bool.{Bool, true, false, false≢true}
 use mathlib.Core.List.{List}
-use Prim.Native.Nat.{ℕ, zero, suc, _+_, _-_, _*_, _/_, _%_, _^_, _≤_, _<_}
+use Prim.Native.Nat.{ℕ, zero, suc, _+_, _-_, _*_, _/_, _%_, _^_, _≤_, _<_, zero-le}
 use native.Mathlib.Nat.{add-mul, suc-mul, one-mul, mul-le-mul-right, mod-lt, div-add-mod'}
 use native.Mathlib.Omega.{arith}
 use lib.ListN.{length}
 use Rattle.numbers.specs.Choose.{choose}
 use Rattle.pixels.specs.Maps.{bitsOf, isMotorola}
 use Rattle.pixels.specs.Inner.{placeAt, shiftAt}
-use Rattle.pixels.proofs.Maps.{bits-le, number-ends}
+use Rattle.pixels.proofs.Maps.{number-ends}
 use Rattle.rows.specs.declared.Lane.{Lane}
 use Rattle.rows.specs.Inner.{Alike, along, Reach, First, carried, swept, onward, Lies}
 use Rattle.rows.proofs.LaneLaws.{along-along, along-none, less-mul, eight-bits, per-bits}
@@ -18,26 +18,36 @@ use Rattle.rows.proofs.ByteLaws.{Bytes, per-some}
 
 -- ---- phases
 
+pub sum-forth : (p q r : ℕ) → p % 8 ≡ q % 8 → (p + r) % 8 ≡ (q + r) % 8
+sum-forth p q r e = omega arith
+
+pub sum-back : (p q r : ℕ) → r ≤ p → r ≤ q → p % 8 ≡ q % 8 → (p - r) % 8 ≡ (q - r) % 8
+sum-back p q r h h' e = omega arith
+
 same-phase : (back : Bool) (format m n i : ℕ) → Reach back m (i + 1) (2 ^ 32) → Reach back n (i + 1) (2 ^ 32)
     → m * bitsOf format % 8 ≡ n * bitsOf format % 8 → along back m i * bitsOf format % 8 ≡ along back n i * bitsOf format % 8
 same-phase true format m n i h h' e =
     let less : i * bitsOf format ≤ m * bitsOf format = mul-le-mul-right (bitsOf format) (omega (arith, h .0)) in
     let less' : i * bitsOf format ≤ n * bitsOf format = mul-le-mul-right (bitsOf format) (omega (arith, h' .0)) in
-    rw (less-mul m i (bitsOf format), less-mul n i (bitsOf format)) (by (m * bitsOf format) (n * bitsOf format) (i * bitsOf format) less less' e)
-  where
-    by : (p q r : ℕ) → r ≤ p → r ≤ q → p % 8 ≡ q % 8 → (p - r) % 8 ≡ (q - r) % 8
-    by p q r less less' e = omega arith
+    rw (less-mul m i (bitsOf format), less-mul n i (bitsOf format)) (sum-back (m * bitsOf format) (n * bitsOf format) (i * bitsOf format) less less' e)
 same-phase false format m n i h h' e =
-    rw (add-mul m i (bitsOf format), add-mul n i (bitsOf format)) (by (m * bitsOf format) (n * bitsOf format) (i * bitsOf format) e)
-  where
-    by : (p q r : ℕ) → p % 8 ≡ q % 8 → (p + r) % 8 ≡ (q + r) % 8
-    by p q r e = omega arith
+    rw (add-mul m i (bitsOf format), add-mul n i (bitsOf format)) (sum-forth (m * bitsOf format) (n * bitsOf format) (i * bitsOf format) e)
 
 pub reach-fewer : (back : Bool) (from k n end : ℕ) → k ≤ n → Reach back from n end → Reach back from k end
 reach-fewer true from k n end less h = (omega (arith, h .0), h .1)
 reach-fewer false from k n end less h = omega (arith, h)
 
-reach-onward : (back : Bool) (from j k end : ℕ) → 0 < k → Reach back from (j + k) end → Reach back (along back from j) k end
+-- what it says of one that goes back
+pub reach-back : (back : Bool) (from n end : ℕ) → Reach back from n end → back ≡ true → (n ≤ from + 1) × (from < end)
+reach-back true from n end h e = h
+reach-back false from n end h e = absurd (false≢true e)
+
+-- so many from the lowest on
+pub reach-lowest : (back : Bool) (from n end : ℕ) → Reach back from n end → choose back (from + 1 - n) from + n ≤ end
+reach-lowest true from n end h = omega (arith, h)
+reach-lowest false from n end h = h
+
+pub reach-onward : (back : Bool) (from j k end : ℕ) → 0 < k → Reach back from (j + k) end → Reach back (along back from j) k end
 reach-onward true from j k end some h = (omega (arith, h .0), omega (arith, h .1))
 reach-onward false from j k end some h = omega (arith, h)
 
@@ -90,35 +100,73 @@ whole-bytes format n c few =
     let one : (n + 1) * bitsOf format ≡ n * bitsOf format + bitsOf format = add-mul n 1 (bitsOf format) ∙ ap (λ (x : ℕ). n * bitsOf format + x) (one-mul (bitsOf format)) in
     omega (arith, eight, one, mul-le-mul-right (bitsOf format) few)
 
-few-bytes : (format c : ℕ) {count : ℕ} → suc c * (8 / bitsOf format) ≤ count → c * (8 / bitsOf format) < count
-few-bytes format c few = omega (arith, suc-mul c (8 / bitsOf format), per-some format)
+-- pixels of a byte lie before the end of so many bytes
+pub before-end : (format i q c count : ℕ) → i < c → q < 8 / bitsOf format → c * (8 / bitsOf format) ≤ count → i * (8 / bitsOf format) + q < count
+before-end format i q c count less small few =
+    omega (arith, mul-le-mul-right (8 / bitsOf format) less, suc-mul i (8 / bitsOf format))
 
--- so many whole bytes lie where their pixels do
-place-reach : (back : Bool) (format base n c count size : ℕ) → First back format n → Reach back n count (2 ^ 32)
-    → ((i : ℕ) → i < count → placeAt format base (along back n i) < size) → 0 < count → c * (8 / bitsOf format) ≤ count
-    → Reach back (placeAt format base n) c size
-place-reach true format base n c count size first reach held some few =
-    let small = bits-le format in
-    let bytes : c * 8 ≤ n * bitsOf format + bitsOf format = whole-bytes format n c (omega (arith, reach .0)) in
-    (omega arith, rw (along-none true n) at (held 0 some))
-place-reach false format base n zero count size first reach held some few =
-    let here : base + n * bitsOf format / 8 < size = rw (along-none false n) at (held 0 some) in omega arith
-place-reach false format base n (suc c) count size first reach held some few =
-    let less : c * (8 / bitsOf format) < count = omega (arith, few-bytes format c few) in
-    let last = held (c * (8 / bitsOf format)) less in
-    let where' : (n + c * (8 / bitsOf format)) * bitsOf format / 8 ≡ n * bitsOf format / 8 + c = bytes-on false format n c first (λ back. absurd (false≢true back)) .0 in
-    omega (arith, where', last)
+-- going back there is room for so many bytes
+pub room : (back : Bool) (format n q c count : ℕ) → Reach back n count (2 ^ 32) → c * (8 / bitsOf format) + q < count → back ≡ true
+    → c * 8 ≤ along back n q * bitsOf format
+room true format n q c count reach less e =
+    let few : c * (8 / bitsOf format) ≤ n - q = omega (arith, reach .0) in
+    omega (arith, eight-bits format c, mul-le-mul-right (bitsOf format) few)
+room false format n q c count reach less e = absurd (false≢true e)
+
+-- a place so many bytes of pixels further
+pub place-further : (back : Bool) (format base n c : ℕ) → (back ≡ true → c * 8 ≤ n * bitsOf format)
+    → placeAt format base (along back n (c * (8 / bitsOf format))) ≡ along back (placeAt format base n) c
+place-further true format base n c enough =
+    let h = enough refl in
+    rw (less-mul n (c * (8 / bitsOf format)) (bitsOf format), eight-bits format c) (omega arith)
+place-further false format base n c enough =
+    rw (add-mul n (c * (8 / bitsOf format)) (bitsOf format), eight-bits format c) (omega arith)
+
+module _ (back : Bool) (format base n count : ℕ) (reach : Reach back n count (2 ^ 32)) where
+  abbrev per : ℕ
+  per = 8 / bitsOf format
+
+  -- and q pixels further
+  pub place-along : (q c : ℕ) → c * per + q < count → placeAt format base (along back n (c * per + q)) ≡ along back (placeAt format base (along back n q)) c
+  place-along q c less =
+      let turn : c * per + q ≡ q + c * per = omega arith in
+      ap (λ (k : ℕ). placeAt format base (along back n k)) turn
+      ∙ ap (placeAt format base) (sym (along-along back n q (c * per)))
+      ∙ place-further back format base (along back n q) c (room back format n q c count reach less)
+
+  -- so many bytes lie where a pixel of each does
+  pub place-reach : (size : ℕ) → ((i : ℕ) → i < count → placeAt format base (along back n i) < size)
+      → (q c : ℕ) → q < count → ((i : ℕ) → i < c → i * per + q < count) → Reach back (placeAt format base (along back n q)) c size
+  place-reach size held q zero some inside = none back _ (held q some)
+    where
+      none : (back : Bool) (p : ℕ) → p < size → Reach back p 0 size
+      none true p h = (zero-le, h)
+      none false p h = omega arith
+  place-reach size held q (suc c) some inside =
+      let less = inside c (omega arith) in
+      more back (along back n q) (room back format n q c count reach less) (held q some)
+      (subst (λ (p : ℕ). p < size) (place-along q c less) (held (c * per + q) less))
+    where
+      more : (back : Bool) (k : ℕ) → (back ≡ true → c * 8 ≤ k * bitsOf format) → placeAt format base k < size
+          → along back (placeAt format base k) c < size → Reach back (placeAt format base k) (suc c) size
+      more true k enough first last = let h = enough refl in (omega arith, first)
+      more false k enough first last = omega arith
 
 module _ (l : Lane) (size count : ℕ) (h : Lies l count size) (some : 0 < count) (first : First (l .back) (l .format) (l .to)) where
   pub first-from : First (l .back) (l .format) (l .from)
   first-from = h .phase ∙ first
 
   module _ (c : ℕ) (few : c * (8 / bitsOf (l .format)) ≤ count) where
+    inside : (i : ℕ) → i < c → i * (8 / bitsOf (l .format)) + 0 < count
+    inside i less = before-end (l .format) i 0 c count less (per-some (l .format)) few
+
     pub source-reach : Reach (l .back) (placeAt (l .format) (l .source) (l .from)) c size
-    source-reach = place-reach (l .back) (l .format) (l .source) (l .from) c count size first-from (h .from) (h .source) some few
+    source-reach =
+        rw (along-none (l .back) (l .from)) at (place-reach (l .back) (l .format) (l .source) (l .from) count (h .from) size (h .source) 0 c some inside)
 
     pub destination-reach : Reach (l .back) (placeAt (l .format) (l .destination) (l .to)) c size
-    destination-reach = place-reach (l .back) (l .format) (l .destination) (l .to) c count size first (h .to) (h .destination) some few
+    destination-reach =
+        rw (along-none (l .back) (l .to)) at (place-reach (l .back) (l .format) (l .destination) (l .to) count (h .to) size (h .destination) 0 c some inside)
 
     -- so they are made at once
     pub swept-whole : (op whole : ℕ → ℕ → ℕ) → Alike (l .format) op whole → ((s d : ℕ) → s < 256 → d < 256 → whole s d < 256)
@@ -128,13 +176,9 @@ module _ (l : Lane) (size count : ℕ) (h : Lies l count size) (some : 0 < count
     swept-whole op whole alike fits m bytes long =
         sym
         (swept-bytes op whole l alike fits first-from first m bytes c
-        (λ back. (enough (l .from) (back-reach (l .back) (l .from) back (h .from)), enough (l .to) (back-reach (l .back) (l .to) back (h .to))))
+        (λ back. (enough (l .from) (reach-back _ _ count _ (h .from) back .0), enough (l .to) (reach-back _ _ count _ (h .to) back .0)))
         (λ i less. rw long (within (l .back) _ i less destination-reach)))
       where
-        back-reach : (back : Bool) (n : ℕ) → back ≡ true → Reach back n count (2 ^ 32) → count ≤ n + 1
-        back-reach true n e reach = reach .0
-        back-reach false n e reach = absurd (false≢true e)
-
         enough : (n : ℕ) → count ≤ n + 1 → c * 8 ≤ n * bitsOf (l .format) + bitsOf (l .format)
         enough n room = whole-bytes (l .format) n c (omega (arith, few, room))
 
@@ -145,18 +189,12 @@ module _ (l : Lane) (size count : ℕ) (h : Lies l count size) (some : 0 < count
 -- ---- behind whole bytes
 
 -- the pixel behind so many whole bytes of a lane is the first of its byte
-pub first-onward : (l : Lane) (size count : ℕ) → Lies l count size → First (l .back) (l .format) (l .to)
+pub first-onward : (l : Lane) (count : ℕ) → Reach (l .back) (l .to) count (2 ^ 32) → First (l .back) (l .format) (l .to)
     → (c done : ℕ) → done ≡ c * (8 / bitsOf (l .format)) → done < count → First (l .back) (l .format) (along (l .back) (l .to) done)
-first-onward l size count h first c done all less =
+first-onward l count h first c done all less =
     subst (λ (n : ℕ). First (l .back) (l .format) (along (l .back) (l .to) n)) (sym all)
-    (bytes-on (l .back) (l .format) (l .to) c first (λ back. room back (h .to)) .1)
-  where
-    room : l .back ≡ true → Reach (l .back) (l .to) count (2 ^ 32) → c * 8 ≤ l .to * bitsOf (l .format)
-    room back reach =
-        let enough : count ≤ l .to + 1 = (subst (λ (b : Bool). Reach b (l .to) count (2 ^ 32)) back reach) .0 in
-        let eight = eight-bits (l .format) c in
-        let few : c * (8 / bitsOf (l .format)) ≤ l .to = omega arith in
-        omega (arith, eight, mul-le-mul-right (bitsOf (l .format)) few)
+    (bytes-on (l .back) (l .format) (l .to) c first
+    (λ back. rw (along-none (l .back) (l .to)) at (room (l .back) (l .format) (l .to) 0 c count h (omega arith) back)) .1)
 
 -- and fewer are left than a byte has
 pub left-in-byte : (format count done : ℕ) → done ≡ count / (8 / bitsOf format) * (8 / bitsOf format) → (0 + (count - done)) * bitsOf format ≤ 8

@@ -10,15 +10,16 @@ use Rattle.pixels.specs.Maps.{bitsOf}
 use Rattle.pixels.proofs.Maps.{bits-le}
 use Rattle.pixels.specs.Inner.{placeAt}
 use Rattle.rows.specs.declared.Lane.{Lane}
-use Rattle.rows.specs.Inner.{Alike, along, carried, withPixelNo, pixelNo, swept, onward, First}
+use Rattle.rows.specs.Inner.{Alike, along, carried, withPixelNo, pixelNo, swept, sweptFrom, onward, First}
 use Rattle.rows.proofs.LaneLaws.{along-along, less-mul, eight-bits}
-use Rattle.rows.proofs.ByteLaws.{Bytes, swept-byte}
+use Rattle.rows.proofs.ByteLaws.{Bytes}
+use Rattle.rows.proofs.EdgeLaws.{swept-byte}
 use Rattle.rows.proofs.CarryLaws.{length-carried, carried-bytes}
 
 -- ---- some, and then the others
 
 pub swept-add : (op : ℕ → ℕ → ℕ) (l : Lane) (j k : ℕ) (m : List ℕ) → swept op l (j + k) m ≡ swept op (onward l j) k (swept op l j m)
-unfolding swept
+unfolding sweptFrom
 swept-add op l j zero m = rw (add-zero j)
 swept-add op l j (suc k) m =
     let before = swept-add op l j k m in
@@ -66,7 +67,7 @@ module _ (op whole : ℕ → ℕ → ℕ) (l : Lane) (alike : Alike (l .format) 
   pub swept-bytes : (c : ℕ) → (l .back ≡ true → (c * 8 ≤ l .from * bits + bits) × (c * 8 ≤ l .to * bits + bits))
       → ((i : ℕ) → i < c → along (l .back) P i < length m)
       → swept op l (c * (8 / bits)) m ≡ carried whole (l .back) P' P c m
-  unfolding swept carried
+  unfolding sweptFrom carried
   swept-bytes zero enough held = rw (zero-mul (8 / bits))
   swept-bytes (suc c) enough held =
       let before = swept-bytes c (λ back. let h = enough back in (omega arith, omega arith)) (λ i h. held i (omega arith)) in

@@ -26,7 +26,8 @@ pub field-and : (s n a b : ℕ) → field s n (bitAnd a b) ≡ bitAnd (field s n
 unfolding field
 field-and s n a b = ap (λ (x : ℕ). x % 2 ^ n) (and-shr a b s) ∙ and-mod (a / 2 ^ s) (b / 2 ^ s) n
 
-masked : (s n x : ℕ) → bitAnd x (2 ^ (n + s) - 2 ^ s) ≡ field s n x * 2 ^ s
+-- the bits of a field
+pub masked : (s n x : ℕ) → bitAnd x (2 ^ (n + s) - 2 ^ s) ≡ field s n x * 2 ^ s
 unfolding field
 masked s n x = and-high x n s
 

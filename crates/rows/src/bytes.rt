@@ -15,7 +15,7 @@ use crate::wholes::blend_bytes;
 fn wash(memory: &mut [u8], at: usize, count: usize, always: u8, ones: u8)
     requires { ⌜ at + count ≤ length (now memory) ⌝ }
     ensures { λ _.
-        ⌜ now (memory .exit) ≡ changed (λ d. bitXor d (bitXor always (bitAnd ones d))) at count (now (memory .entry)) ⌝ }
+        ⌜ now (memory .exit) ≡ changed (λ i d. bitXor d (bitXor always (bitAnd ones d))) at count (now (memory .entry)) ⌝ }
 {
     let mut i: usize = 0;
     while i < count {
@@ -89,7 +89,7 @@ fn is_copy(whole: Whole) -> bool
 }
 
 // The lowest of so many places, back or forth from one.
-fn lowest(back: bool, from: usize, count: usize) -> usize
+pub(crate) fn lowest(back: bool, from: usize, count: usize) -> usize
     requires { ⌜ (back ≡ true → (count ≤ from + 1) × (from + 1 < 2 ^ 64)) ⌝ }
     ensures { λ r. ⌜ r ≡ choose back (from + 1 - count) from ⌝ }
 {

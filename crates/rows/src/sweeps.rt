@@ -15,7 +15,7 @@ use pixels::bits_of;
 use pixels::place_at;
 
 // The i-th number from n on, back or forth.
-fn step(back: bool, n: u32, i: u32) -> u32
+pub(crate) fn step(back: bool, n: u32, i: u32) -> u32
     requires { ⌜ Reach back n (i + 1) (2 ^ 32) ⌝ }
     ensures { λ r. ⌜ r ≡ along back n i ⌝ }
 {
@@ -23,16 +23,27 @@ fn step(back: bool, n: u32, i: u32) -> u32
 }
 
 // So many bits of a byte from a shift on.
-fn span(shift: u32, bits: u32) -> u8
+pub(crate) fn span(shift: u32, bits: u32) -> u8
     requires { ⌜ shift + bits ≤ 8 ⌝ }
     ensures { λ r. ⌜ r ≡ 2 ^ (bits + shift) - 2 ^ shift ⌝ }
 {
-    let end: u32 = 1 << (bits + shift);
-    let start: u32 = 1 << shift;
-    (end - start) as u8
+    let ones: u32 = (1 << bits) - 1;
+    (ones << shift) as u8
 }
 
-// One pixel of a byte, as the blend makes it of that byte and another.
+// Some bits of a byte, as the blend makes them of that byte and another.
+pub(crate) fn mend(memory: &mut [u8], whole: Whole, s: u8, at: usize, shift: u32, bits: u32)
+    requires { ⌜ (at < length (now memory)) × (shift + bits ≤ 8) ⌝ }
+    ensures { λ _.
+        ⌜ now (memory .exit) ≡ set (now (memory .entry)) at (withField shift bits
+        (field shift bits (wholly whole s (getD (now (memory .entry)) at 0))) (getD (now (memory .entry)) at 0)) ⌝ }
+{
+    let d = memory[at];
+    let made = blend_bytes(whole, s, d);
+    memory[at] = d ^ ((made ^ d) & span(shift, bits));
+}
+
+// The same, of another byte of memory.
 fn touch(memory: &mut [u8], whole: Whole, from: usize, at: usize, shift: u32, bits: u32)
     requires { ⌜ (from < length (now memory)) × (at < length (now memory)) × (shift + bits ≤ 8) ⌝ }
     ensures { λ _.
@@ -40,13 +51,11 @@ fn touch(memory: &mut [u8], whole: Whole, from: usize, at: usize, shift: u32, bi
         (field shift bits (wholly whole (getD (now (memory .entry)) from 0) (getD (now (memory .entry)) at 0))) (getD (now (memory .entry)) at 0)) ⌝ }
 {
     let s = memory[from];
-    let d = memory[at];
-    let made = blend_bytes(whole, s, d);
-    memory[at] = d ^ ((made ^ d) & span(shift, bits));
+    mend(memory, whole, s, at, shift, bits);
 }
 
 // Whether a lane goes through its bytes from the top.
-fn is_from_top(back: bool, format: u8) -> bool
+pub(crate) fn is_from_top(back: bool, format: u8) -> bool
     ensures { λ r. ⌜ r ≡ fromTop back format ⌝ }
 {
     let motorola = format / 8 % 2 == 1;
@@ -54,7 +63,7 @@ fn is_from_top(back: bool, format: u8) -> bool
 }
 
 // How far up so many pixels of a byte begin, behind those that are passed.
-fn edge_from(back: bool, format: u8, passed: u32, count: u32) -> u32
+pub(crate) fn edge_from(back: bool, format: u8, passed: u32, count: u32) -> u32
     requires { ⌜ (passed + count) * bitsOf format ≤ 8 ⌝ }
     ensures { λ r. ⌜ r ≡ edgeFrom (fromTop back format) (bitsOf format) passed count ⌝ }
 {
@@ -88,7 +97,7 @@ fn edge(memory: &mut [u8], lane: Lane, whole: Whole, passed: u32, count: u32)
 }
 
 // How many pixels of its byte a lane has passed at pixel number n.
-fn gone(back: bool, format: u8, n: u32) -> u32
+pub(crate) fn gone(back: bool, format: u8, n: u32) -> u32
     ensures { λ r. ⌜ r ≡ goneAt back format n ⌝ }
 {
     let last: u32 = 7 >> (format % 4);
@@ -97,7 +106,7 @@ fn gone(back: bool, format: u8, n: u32) -> u32
 }
 
 // How many pixels of a lane come before the first that begins a byte, and no more than there are.
-fn lead(back: bool, format: u8, n: u32, count: u32) -> u32
+pub(crate) fn lead(back: bool, format: u8, n: u32, count: u32) -> u32
     requires { ⌜ Reach back n count (2 ^ 32) ⌝ }
     ensures { λ r. ⌜ (r ≤ count) × (r < count → First back format (along back n r)) × ((goneAt back format n + r) * bitsOf format ≤ 8) ⌝ }
 {
@@ -114,7 +123,7 @@ fn lead(back: bool, format: u8, n: u32, count: u32) -> u32
 }
 
 // The lane from its n-th pixel on.
-fn onward(lane: Lane, n: u32) -> Lane
+pub(crate) fn onward(lane: Lane, n: u32) -> Lane
     requires { ⌜ Reach (lane .back) (lane .from) (n + 1) (2 ^ 32) × Reach (lane .back) (lane .to) (n + 1) (2 ^ 32) ⌝ }
     ensures { λ r. ⌜ r ≡ inner.onward lane n ⌝ }
 {
@@ -129,14 +138,14 @@ fn onward(lane: Lane, n: u32) -> Lane
 }
 
 // How many bytes so many pixels fill.
-fn bytes_in(format: u8, count: u32) -> u32
+pub(crate) fn bytes_in(format: u8, count: u32) -> u32
     ensures { λ r. ⌜ r ≡ count / (8 / bitsOf format) ⌝ }
 {
     count >> (3 - format % 4)
 }
 
 // How many pixels fill so many bytes.
-fn pixels_in(format: u8, bytes: u32) -> u32
+pub(crate) fn pixels_in(format: u8, bytes: u32) -> u32
     requires { ⌜ bytes * (8 / bitsOf format) < 2 ^ 32 ⌝ }
     ensures { λ r. ⌜ r ≡ bytes * (8 / bitsOf format) ⌝ }
 {

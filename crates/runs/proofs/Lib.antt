@@ -2,4 +2,8 @@ pub mod AfterLaws
 pub mod RunLaws
 pub mod StretchLaws
 pub mod PlaceLaws
+pub mod PlainLaws
 pub mod RowLaws
+pub mod LaidLaws
+pub mod StepLaws
+pub mod StrokeLaws

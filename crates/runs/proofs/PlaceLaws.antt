@@ -66,7 +66,7 @@ circled-along Back x k low high i across less top h = circled-back x i (omega (a
 -- ---- the destination
 
 -- a negative edge is below every column
-edge-below : (edge : ℤ) (n : ℕ) → ltZ edge (pos 0) ≡ true → ltZ (pos n) edge ≡ false
+pub edge-below : (edge : ℤ) (n : ℕ) → ltZ edge (pos 0) ≡ true → ltZ (pos n) edge ≡ false
 edge-below (pos e) n below = absurd (let h = ltb-true e 0 below in omega arith)
 edge-below (negsuc e) n below = refl
 
@@ -85,8 +85,13 @@ on-column b pen edge on =
     (λ less within. absurd (edge-outside (b .destination .width) (b .edge) edge within)) (λ more within. within-place (b .destination .width) x within)
     (and-left (isWithin (b .destination .width) (placeX b pen)) _ on)
 
+-- nor is its Y below 0
+pub on-row : (b : Brush) (pen : Pen) → onMap b pen ≡ true → pen .pointers .destination .y ≡ pos (columnOf (pen .pointers .destination .y))
+unfolding onMap
+on-row b pen on = within-place (b .destination .height) _ (and-right (isWithin (b .destination .width) (placeX b pen)) _ on)
+
 -- a column from the mask's first to its last is within the mask
-within-mask : (n origin last : ℕ) → origin ≤ n → n ≤ origin + last → isWithin last (pos n -ℤ pos origin) ≡ true
+pub within-mask : (n origin last : ℕ) → origin ≤ n → n ≤ origin + last → isWithin last (pos n -ℤ pos origin) ≡ true
 unfolding isWithin
 within-mask n zero last low high = le-leb (n + 0) last (omega arith)
 within-mask n (suc origin) last low high =

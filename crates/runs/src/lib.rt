@@ -10,11 +10,14 @@ use parts::drawing::is_unfinished;
 use places::Setup;
 use plans::plan_of;
 use position::inks::blends_of;
-use stretches::turn;
+use turns::turn;
 
+mod lanes;
 mod plans;
 mod singly;
 mod stretches;
+mod strokes;
+mod turns;
 
 // What a run leaves beside memory: the pen, and the positions done.
 pub struct Ran {

@@ -4,39 +4,36 @@ ghost use mathlib.Core.Path.{_≡_};
 ghost use mathlib.Core.Bool.{Bool, true, false};
 ghost use Prim.Native.Nat.{ℕ, _+_, _-_, _*_, _%_, _^_, _≤_, _<_};
 ghost use lib.ListN.{length};
-ghost use Rattle.numbers.specs.Choose.{choose};
-ghost use Rattle.pixels.specs.Maps.{bitsOf};
-ghost use Rattle.parts.specs.Drawings.{unfinished};
 ghost use Rattle.parts.specs.declared.drawing.Drawing.the-variants.{Block};
 ghost use Rattle.moves.specs.Moves.{moved};
 ghost use Rattle.moves.specs.Inner.{OnCircle, pointersInside, columnsPassed};
+ghost use Rattle.position.specs.declared.Blends.{Blends};
 ghost use Rattle.position.specs.Inner.{InkBlends, Safe};
 ghost use Rattle.runs.specs.Runs.{begun, after};
 ghost use Rattle.runs.specs.Inner as inner;
-ghost use Rattle.runs.specs.Inner.{Planned, Spans, Sized, columnAt, laneAt, Stretch};
+ghost use Rattle.runs.specs.Inner.{Planned, Blended, takenMap, Spans, Sized, columnAt, laneAt, Stretch};
 use crate::Ran;
+use crate::lanes::draw_lane;
 use crate::plans::Plan;
+use crate::plans::Taken;
 use crate::plans::least;
-use crate::singly::run_singly;
 use moves::Pen;
 use moves::Travel;
 use moves::pens::pass_columns;
-use moves::pens::pass_row;
+use moves::pens::return_row;
 use moves::ways::row_after;
 use parts::drawing::Drawing;
+use parts::shapes::Point;
 use pixels::Map;
 use pixels::index;
-use pixels::shift_at;
 use places::Setup;
 use places::places::destination_of;
 use places::places::in_mask;
 use places::places::on_map;
-use position::Blends;
 use rows::Lane;
-use rows::sweeps::sweep;
 
 // How many places from here on, back or forth, lie from `low` to `high`.
-fn span(back: bool, here: u16, low: u16, high: u16) -> u32
+pub(crate) fn span(back: bool, here: u16, low: u16, high: u16) -> u32
     ensures { λ r. ⌜ (0 < r → Spans back here r low high) ⌝ }
 {
     if (here < low) | (high < here) {
@@ -60,72 +57,63 @@ fn rest(column: u16, last: u16) -> u32
     }
 }
 
-// How many columns from the pen on may be painted, before the source pointer wraps where it is taken.
-fn reach(setup: Setup, plan: Plan, pen: Pen) -> u32
-    ensures { λ r.
-        ⌜ (0 < r → Spans (plan .back) (columnAt setup pen) r (plan .left) (plan .right)
-        × (plan .takes ≡ true → Spans (plan .back) (pen .pointers .source .x) r 0 (setup .travel .source .map .width))) ⌝ }
-{
-    let at = destination_of(setup.brush, pen);
-    let columns = span(plan.back, at.x, plan.left, plan.right);
-    if plan.takes {
-        least(
-            columns,
-            span(
-                plan.back,
-                pen.pointers.source.x,
-                0,
-                setup.travel.source.map.width,
-            ),
-        )
-    } else {
-        columns
-    }
-}
-
 // How many pixels of the map come before this one.
-fn number(map: Map, x: u16, y: u16) -> u32
+pub(crate) fn number(map: Map, x: u16, y: u16) -> u32
     ensures { λ r. ⌜ (r ≡ inner.pixelNumber map x y) × Sized map ⌝ }
 {
     index(map, x, y)
 }
 
-// The lane of the row from the pen's pixel on.
-fn lane_of(setup: Setup, plan: Plan, pen: Pen) -> Lane
-    ensures { λ r. ⌜ (r ≡ laneAt setup plan pen) × Sized (setup .brush .destination) × (plan .takes ≡ true → Sized (setup .travel .source .map)) ⌝ }
+// The first pixel that a row takes beside its own.
+fn taken_point(setup: Setup, taken: Taken, pen: Pen) -> Point
+    ensures { λ r. ⌜ (r .x ≡ inner.takenX setup taken pen) × (r .y ≡ inner.takenY setup taken pen) ⌝ }
 {
-    let at = destination_of(setup.brush, pen);
-    let to = number(setup.brush.destination, at.x, at.y);
-    if plan.takes {
-        Lane {
-            format: setup.brush.destination.format,
-            back: plan.back,
-            source: setup.travel.source.map.base,
-            destination: setup.brush.destination.base,
-            from: number(
-                setup.travel.source.map,
-                pen.pointers.source.x,
-                pen.pointers.source.y,
-            ),
-            to,
-        }
-    } else {
-        Lane {
-            format: setup.brush.destination.format,
-            back: plan.back,
-            source: setup.brush.destination.base,
-            destination: setup.brush.destination.base,
-            from: to,
-            to,
-        }
+    match taken {
+        Taken::Own => destination_of(setup.brush, pen),
+        Taken::Source => Point {
+            x: pen.pointers.source.x,
+            y: pen.pointers.source.y,
+        },
+        Taken::Pattern => Point {
+            x: pen.pointers.pattern.x,
+            y: pen.pointers.pattern.y,
+        },
     }
 }
 
-// Whether the lane's pixels lie as far up in their bytes as those that they come from.
-fn is_in_phase(lane: Lane) -> bool
-    ensures { λ r. ⌜ (r ≡ true → lane .from * bitsOf (lane .format) % 8 ≡ lane .to * bitsOf (lane .format) % 8) ⌝ }
+// How many columns from the pen on may be painted, before the pointer wraps that is taken.
+fn reach(setup: Setup, plan: Plan, pen: Pen) -> u32
+    requires { ⌜ plan .map ≡ takenMap setup (plan .takes) ⌝ }
+    ensures { λ r.
+        ⌜ (0 < r → Spans (plan .back) (columnAt setup pen) r (plan .left) (plan .right)
+        × Spans (plan .back) (inner.takenX setup (plan .takes) pen) r 0 (takenMap setup (plan .takes) .width)) ⌝ }
 {
-    shift_at(lane.format, lane.from) == shift_at(lane.format, lane.to)
+    let taken = plan.takes;
+    let at = destination_of(setup.brush, pen);
+    let point = taken_point(setup, taken, pen);
+    least(
+        span(plan.back, at.x, plan.left, plan.right),
+        span(plan.back, point.x, 0, plan.map.width),
+    )
+}
+
+// The lane of the row from the pen's pixel on.
+fn lane_of(setup: Setup, plan: Plan, pen: Pen) -> Lane
+    requires { ⌜ plan .map ≡ takenMap setup (plan .takes) ⌝ }
+    ensures { λ r. ⌜ (r ≡ laneAt setup plan pen) × Sized (setup .brush .destination) × Sized (takenMap setup (plan .takes)) ⌝ }
+{
+    let taken = plan.takes;
+    let at = destination_of(setup.brush, pen);
+    let map = plan.map;
+    let point = taken_point(setup, taken, pen);
+    Lane {
+        format: setup.brush.destination.format,
+        back: plan.back,
+        source: map.base,
+        destination: setup.brush.destination.base,
+        from: number(map, point.x, point.y),
+        to: number(setup.brush.destination, at.x, at.y),
+    }
 }
 
 // How many positions from this column of a block on are alike, and no more than are allowed; none where the first is not painted.
@@ -137,15 +125,13 @@ fn block_length(
     column: u16,
     allowance: u32,
 ) -> u32
+    requires { ⌜ plan .map ≡ takenMap setup (plan .takes) ⌝ }
     ensures { λ r. ⌜ ((row : ℕ) → pen .drawing ≡ Block inside column row → 0 < r → Stretch setup plan pen r × (r ≤ allowance)) ⌝ }
 {
     if inside | !on_map(setup.brush, pen) {
         return 0;
     }
     if !in_mask(setup.brush, pen) {
-        return 0;
-    }
-    if !is_in_phase(lane_of(setup, plan, pen)) {
         return 0;
     }
     least(
@@ -156,6 +142,7 @@ fn block_length(
 
 // How many positions from the pen on are alike, and no more than are allowed; none but of a block that is drawn by rows.
 fn length_of(setup: Setup, plan: Plan, pen: Pen, allowance: u32) -> u32
+    requires { ⌜ plan .map ≡ takenMap setup (plan .takes) ⌝ }
     ensures { λ r. ⌜ (0 < r → (plan .rows ≡ true) × Stretch setup plan pen r × (r ≤ allowance)) ⌝ }
 {
     if !plan.rows {
@@ -174,46 +161,42 @@ fn length_of(setup: Setup, plan: Plan, pen: Pen, allowance: u32) -> u32
     }
 }
 
-// The steps within a row: one more where its end is not reached.
-fn steps_by(ends: bool, further: u16) -> u16
-    requires { ⌜ (ends ≡ false → further + 1 < 2 ^ 16) ⌝ }
-    ensures { λ r. ⌜ r ≡ choose ends further (further + 1) ⌝ }
-{
-    if ends { further } else { further + 1 }
-}
-
 // The pen after so many positions of a row, from this column and row of a block on, of which the last may end it.
 fn pass(travel: Travel, count: u32, column: u16, row: u16, pen: Pen) -> Pen
     requires { ⌜ (0 < count)
+        × (count ≤ travel .figure .dimensions .x - column + 1)
         × (column + count ≤ 2 ^ 16)
         × (pointersInside travel pen ≡ true)
         × OnCircle (pen .pointers .destination .x) ⌝ }
     ensures { λ r. ⌜ r ≡ moved travel (columnsPassed travel (count - 1) (Block false (column + (count - 1)) row) pen) ⌝ }
 {
     let further = (count - 1) as u16;
-    let ends = travel.figure.dimensions.x <= column + further;
-    let steps = steps_by(ends, further);
-    let ahead = pass_columns(
-        travel,
-        steps,
-        Drawing::Block {
-            inside: false,
-            column: column + steps,
-            row,
-        },
-        pen,
-    );
-    if ends {
-        pass_row(travel, row_after(row, travel.figure.dimensions.y), ahead)
+    if travel.figure.dimensions.x <= column + further {
+        return_row(
+            travel,
+            travel.figure.dimensions.x - further,
+            row_after(row, travel.figure.dimensions.y),
+            pen,
+        )
     } else {
-        ahead
+        pass_columns(
+            travel,
+            further + 1,
+            Drawing::Block {
+                inside: false,
+                column: column + further + 1,
+                row,
+            },
+            pen,
+        )
     }
 }
 
 // The pen after so many positions of a stretch.
 fn pass_stretch(travel: Travel, count: u32, pen: Pen) -> Pen
     requires { ⌜ (0 < count)
-        × ((inside : Bool) (column row : ℕ) → pen .drawing ≡ Block inside column row → column + count ≤ 2 ^ 16)
+        × ((inside : Bool) (column row : ℕ) → pen .drawing ≡ Block inside column row
+        → (count ≤ travel .figure .dimensions .x - column + 1) × (column + count ≤ 2 ^ 16))
         × (pointersInside travel pen ≡ true)
         × OnCircle (pen .pointers .destination .x) ⌝ }
     ensures { λ r.
@@ -233,41 +216,30 @@ fn pass_stretch(travel: Travel, count: u32, pen: Pen) -> Pen
     }
 }
 
-// How many positions are done one by one before stretches are looked for again: a few, and all where rows are not drawn as rows.
-fn alone(rows: bool, allowance: u32) -> u32
-    requires { ⌜ 0 < allowance ⌝ }
-    ensures { λ r. ⌜ (0 < r) × (r ≤ allowance) ⌝ }
-{
-    if rows {
-        least(allowance, 16)
-    } else {
-        allowance
-    }
-}
-
-// The next positions, at most as many as are allowed: a stretch of a row, or some one by one.
-pub(crate) fn turn(
-    setup: Setup,
-    blends: Blends,
-    plan: Plan,
-    memory: &mut [u8],
-    pen: Pen,
-    allowance: u32,
-) -> Ran
-    requires { ⌜ (plan .rows ≡ true → Planned setup blends plan)
-        × InkBlends (setup .brush) blends
-        × Safe setup (length (now memory)) pen
-        × (unfinished (pen .drawing) ≡ true)
-        × (0 < allowance) ⌝ }
-    ensures { λ r. ⌜ (0 < r .done)
-        × (r .done ≤ allowance)
-        × (after setup (r .done) (begun pen (now (memory .entry))) ≡ record { pen = r .pen; memory = now (memory .exit); done = r .done }) ⌝ }
+// The next positions of a row that are alike, and at most as many as are allowed; none where the first is not painted.
+pub(crate) fn draw_row(setup: Setup, plan: Plan, memory: &mut [u8], pen: Pen, allowance: u32) -> Ran
+    requires { ⌜ Planned setup plan × Safe setup (length (now memory)) pen ⌝ }
+    ensures { λ r. ⌜ (r .done ≤ allowance)
+        × ((blends : Blends) → InkBlends (setup .brush) blends → Blended setup blends plan
+        → after setup (r .done) (begun pen (now (memory .entry))) ≡ record { pen = r .pen; memory = now (memory .exit); done = r .done }) ⌝ }
 {
     let count = length_of(setup, plan, pen, allowance);
     if count == 0 {
-        return run_singly(setup, blends, pen, memory, alone(plan.rows, allowance));
+        return Ran { pen, done: 0 };
     }
-    sweep(memory, lane_of(setup, plan, pen), plan.whole, count);
+    let taken = plan.takes;
+    let lane = lane_of(setup, plan, pen);
+    if !draw_lane(
+        memory,
+        taken,
+        plan.map.format,
+        lane,
+        plan.front,
+        plan.rear,
+        count,
+    ) {
+        return Ran { pen, done: 0 };
+    }
     Ran {
         pen: pass_stretch(setup.travel, count, pen),
         done: count,

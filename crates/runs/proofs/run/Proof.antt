@@ -44,7 +44,8 @@ turn-requires c κs =
     let at = c .before .before .loop in
     let on = test (c .before) in
     let safe = at .inv .4 (on .1) in (
-      c .before .before .before .before .plan-of .ensures,
+      c .before .before .before .before .plan-of .ensures .0,
+      c .before .before .before .before .plan-of .ensures .1,
       c .before .before .before .before .before .blends-of .ensures (safe .depth),
       rw (at .inv .1) safe,
       sym (at .inv .3) ∙ on .1,
@@ -92,7 +93,7 @@ run-spec =
     loop-holds
     (λ c. omega (arith, test (c .before) .0))
     turn-requires
-    (λ c. omega (arith, few (c .before .before .before .before) .1))
+    (λ c. omega (arith, c .before .before .before .before .before .before .before .before .before .before .before .before .fits .allowance, few (c .before .before .before .before) .1))
     (λ c κs. search needs)
     (λ c. omega (arith, few (c .before .before .before .before .before)))
     loop-again

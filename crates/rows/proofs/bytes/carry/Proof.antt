@@ -1,44 +1,47 @@
 -- `rows::bytes::carry` is the same by each loop: a blend that takes nothing from the source goes in any order, and one that is the source copies.
 use mathlib.Core.Path.{_≡_, sym, ap, _∙_}
-use mathlib.Core.Bool.{Bool, true, false, _&&_, false≢true}
-use Prim.Native.Nat.{ℕ, _+_, _-_, _≤_, _<_}
+use mathlib.Core.Bool.{_&&_}
+use Prim.Native.Nat.{ℕ, _<_}
 use native.Mathlib.Omega.{arith}
-use lib.Bits.{bitAnd, bitXor}
+use lib.Bits.{bitAnd, bitXor, and-zero-l}
 use lib.Dec.{eqb}
 use lib.ListN.{getD}
 use borrow.Author.Needs.{needs}
 use borrow.Author.Tests.{eqb-true}
-use Rattle.numbers.specs.Choose.{choose}
 use Rattle.numbers.proofs.Choices.{and-left, and-right}
-use Rattle.rows.specs.Inner.{wholly, Reach, changed}
+use Rattle.rows.specs.Inner.{wholly, changed}
 use Rattle.rows.proofs.CarryLaws.{carried-same, carried-alone, wholly-alone, wholly-copy}
+use Rattle.rows.proofs.LiesLaws.{reach-back, reach-lowest}
 use Rattle.rows.proofs.bytes.carry.Statement.{statement}
 use Rattle.rows.proofs.bytes.carry.Tie as tie
 
--- what the reach of a range says of its lowest byte
-reached : (back : Bool) (from n end : ℕ) → Reach back from n end → back ≡ true → (n ≤ from + 1) × (from < end)
-reached true from n end h e = h
-reached false from n end h e = absurd (false≢true e)
-
-lowest-in : (back : Bool) (from n end : ℕ) → Reach back from n end → choose back (from + 1 - n) from + n ≤ end
-lowest-in true from n end h = omega (arith, h)
-lowest-in false from n end h = h
-
 lowest-requires : tie.Need-lowest-requires
-lowest-requires c κs = λ back. let h = reached _ _ _ _ (c .before .before .before .pre .1) back in (h .0, omega (arith, h .1, c .before .before .before .good .0 .0))
+lowest-requires c κs = λ back.
+    let start = c .before .before .before in
+    let h = reach-back _ _ _ _ (start .pre .1) back in
+    (h .0, omega (arith, h .1, start .good .0 .0))
 
 wash-requires : tie.Need-wash-requires
-wash-requires c κs = let a = c .before .before .before .before .before .args in rw (c .before .lowest .ensures) (lowest-in (a .back) (a .to) (a .count) _ (c .before .before .before .before .before .pre .1))
+wash-requires c κs =
+    let start = c .before .before .before .before .before in
+    let a = start .args in
+    rw (c .before .lowest .ensures) (reach-lowest (a .back) (a .to) (a .count) _ (start .pre .1))
 
 returns : tie.Need-returns
 returns c =
-    let a = c .before .before .before .before .before .before .before .before .args in
+    let start = c .before .before .before .before .before .before .before .before in
+    let a = start .args in
+    let w = a .whole in
+    let m = a .memory .now in
     let test = sym (c .before .before .before .before .before .before .is-solid .ensures) ∙ c .before .before .before .before .before .if1 .taken in
-    let none = eqb-true _ _ (and-left (eqb (a .whole .source) 0) _ test) in
-    let none' = eqb-true _ _ (and-right (eqb (a .whole .source) 0) _ test) in
+    let none : w .source ≡ 0 = eqb-true _ _ (and-left (eqb (w .source) 0) _ test) in
+    let none' : w .both ≡ 0 = eqb-true _ _ (and-right (eqb (w .source) 0) _ test) in
     c .before .before .wash .ensures
-    ∙ ap (λ (at : ℕ). changed (λ d. bitXor d (bitXor (a .whole .always) (bitAnd (a .whole .destination) d))) at (a .count) (a .memory .now)) (c .before .before .before .before .lowest .ensures)
-    ∙ sym (carried-alone (wholly (a .whole)) _ (wholly-alone (a .whole) none none') (a .back) (a .from) (a .to) (a .count) (a .memory .now) (λ back. reached _ _ _ _ (c .before .before .before .before .before .before .before .before .pre .1) back .0))
+    ∙ ap (λ (at : ℕ). changed (λ i d. bitXor d (bitXor (w .always) (bitAnd (w .destination) d))) at (a .count) m)
+    (c .before .before .before .before .lowest .ensures)
+    ∙ sym
+    (carried-alone (wholly w) _ (λ s d. wholly-alone w s d (rw none (and-zero-l s)) (rw none' (and-zero-l s)))
+    (a .back) (a .from) (a .to) (a .count) m (λ back. reach-back _ _ _ _ (start .pre .1) back .0))
 
 returns-2 : tie.Need-returns-2
 returns-2 c =

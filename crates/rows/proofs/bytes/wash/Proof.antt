@@ -11,7 +11,7 @@ use Rattle.rows.proofs.bytes.wash.Tie as tie
 
 abbrev Inv-loop : tie.InvT-loop
 Inv-loop memory₀ at count always ones i₀ memory i =
-    (i ≤ count) × (length memory ≡ length memory₀) × (memory ≡ changed (λ d. bitXor d (bitXor always (bitAnd ones d))) at i memory₀)
+    (i ≤ count) × (length memory ≡ length memory₀) × (memory ≡ changed (λ i d. bitXor d (bitXor always (bitAnd ones d))) at i memory₀)
 
 abbrev μ-loop : tie.MeasureT-loop
 μ-loop memory₀ at count always ones i₀ memory i = count - i

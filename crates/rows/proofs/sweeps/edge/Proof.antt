@@ -6,14 +6,15 @@ use lib.ListN.{getD, set}
 use borrow.Author.Needs.{needs}
 use Rattle.numbers.specs.Fields.{field, withField}
 use Rattle.pixels.specs.Maps.{bitsOf}
-use Rattle.rows.specs.Inner.{wholly, swept, fromTop}
+use Rattle.rows.specs.Inner.{wholly, sweptFrom, fromTop}
 use Rattle.rows.proofs.LaneLaws.{along-none}
-use Rattle.rows.proofs.ByteLaws.{edge-bits, edge-low, swept-edge}
+use Rattle.rows.proofs.ByteLaws.{edge-bits, edge-low}
+use Rattle.rows.proofs.EdgeLaws.{swept-edge}
 use Rattle.rows.proofs.sweeps.edge.Statement.{statement}
 use Rattle.rows.proofs.sweeps.edge.Tie as tie
 
 returns : tie.Need-returns
-unfolding swept
+unfolding sweptFrom
 returns c = λ op alike. rw (c .if1 .taken)
 
 -- the pixels' bits

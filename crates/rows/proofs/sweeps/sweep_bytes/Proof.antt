@@ -63,7 +63,7 @@ edge-requires c κs =
     let all = c .before .before .before .pixels-in .ensures ∙ ap (λ (n : ℕ). n * (8 / bitsOf (l .format))) (c .before .before .before .before .before .before .before .before .before .before .bytes-in .ensures) in
     rw (c .onward .ensures, c .before .before .before .before .before .before .carry .kept .0) (
       lies-onward l _ done _ (a .count) (omega arith) (omega arith) (h .0),
-      first-passed (l .back) (l .format) _ (first-onward l _ (a .count) (h .0) (h .2) (a .count / (8 / bitsOf (l .format))) done all (c .before .before .if1 .taken)),
+      first-passed (l .back) (l .format) _ (first-onward l (a .count) (h .0 .to) (h .2) (a .count / (8 / bitsOf (l .format))) done all (c .before .before .if1 .taken)),
       left-in-byte (l .format) (a .count) done all,
     )
 

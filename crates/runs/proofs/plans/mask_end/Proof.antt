@@ -8,7 +8,7 @@ returns : tie.Need-returns
 returns c = rw (c .if1 .taken)
 
 returns-2 : tie.Need-returns-2
-returns-2 c = rw (ne-eqb _ _ (c .before .before .if1 .left))
+returns-2 c = rw (ne-eqb _ _ (c .if1 .left))
 
 pub mask-end-spec : {M : Type 1} → statement M
-mask-end-spec = tie.close (tie.spec (λ c. search needs) (λ c. search needs) (λ c. search needs) returns returns-2)
+mask-end-spec = tie.close (tie.spec (λ c. search needs) returns returns-2)

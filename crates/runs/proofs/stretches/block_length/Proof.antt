@@ -1,30 +1,16 @@
 -- `block_length` is a stretch, by the tests that it passed and the least of three numbers.
-use mathlib.Core.Path.{_≡_, sym, ap, subst, _∙_}
+use mathlib.Core.Path.{_≡_, sym, ap, _∙_}
 use mathlib.Core.Bool.{Bool}
-use Prim.Native.Nat.{ℕ, _-_, _*_, _%_, _≤_}
+use Prim.Native.Nat.{ℕ, _≤_}
 use native.Mathlib.Nat.{min-le-left, min-le-right}
 use native.Mathlib.Omega.{arith}
 use borrow.Author.Needs.{needs}
 use borrow.Author.Tests.{not-false}
-use Rattle.pixels.specs.Maps.{bitsOf}
-use Rattle.rows.specs.declared.Lane.{Lane}
 use Rattle.parts.specs.declared.drawing.Drawing.the-variants.{Block}
-use Rattle.runs.specs.Inner.{columnAt, laneAt}
+use Rattle.runs.specs.Inner.{columnAt, takenMap, takenX}
 use Rattle.runs.proofs.PlaceLaws.{neither, spans-fewer}
-use Rattle.runs.proofs.RowLaws.{lane-format}
 use Rattle.runs.proofs.stretches.block_length.Statement.{statement}
 use Rattle.runs.proofs.stretches.block_length.Tie as tie
-
--- the lane is in phase
-phase : (c : tie.Else3) → let a = c .before .before .before .before .before .before .before .args in let l = laneAt (a .setup) (a .plan) (a .pen) in
-    l .from * bitsOf (a .setup .brush .destination .format) % 8 ≡ l .to * bitsOf (a .setup .brush .destination .format) % 8
-phase c =
-    let a = c .before .before .before .before .before .before .before .args in
-    let l = laneAt (a .setup) (a .plan) (a .pen) in
-    let there =
-    subst (λ (q : Lane). q .from * bitsOf (q .format) % 8 ≡ q .to * bitsOf (q .format) % 8) (c .before .before .lane-of .ensures .0)
-    (c .before .is-in-phase .ensures (not-false _ (c .if3 .left))) in
-    subst (λ (f : ℕ). l .from * bitsOf f % 8 ≡ l .to * bitsOf f % 8) (lane-format (a .setup) (a .plan) (a .pen)) there
 
 returns : tie.Need-returns
 returns c = λ row e some. absurd (omega arith)
@@ -32,15 +18,12 @@ returns c = λ row e some. absurd (omega arith)
 returns-2 : tie.Need-returns-2
 returns-2 c = λ row e some. absurd (omega arith)
 
-returns-3 : tie.Need-returns-3
-returns-3 c = λ row e some. absurd (omega arith)
-
 at-most : {x y : ℕ} → x ≡ y → x ≤ y
 at-most e = omega arith
 
-returns-4 : tie.Need-returns-4
-returns-4 c = λ row e some.
-    let a = c .before .before .before .before .before .before .before .before .before .before .before .args in
+returns-3 : tie.Need-returns-3
+returns-3 c = λ row e some.
+    let a = c .before .before .before .before .before .before .before .before .args in
     let r = c .least2 .result in
     let all = c .least2 .ensures in
     let first : r ≤ c .before .before .least .result = rw all (min-le-left _ _) in
@@ -49,20 +32,18 @@ returns-4 c = λ row e some.
     let fewest : c .before .before .least .result ≤ c .before .before .before .rest .result = rw (c .before .before .least .ensures) (min-le-right _ _) in
     let ends = at-most (c .before .before .before .rest .ensures .0) in
     let spans = c .before .reach .ensures (omega arith) in
-    let free = neither (a .inside) _ (c .before .before .before .before .before .before .before .before .before .if1 .left) in (
+    let free = neither (a .inside) _ (c .before .before .before .before .before .before .if1 .left) in (
       record {
         column = a .column;
         row = row;
         drawing = e ∙ ap (λ (i : Bool). Block i (a .column) row) (free .0);
         ends = omega arith;
         small = omega (arith, c .before .before .before .rest .ensures .1);
-        on = sym (c .before .before .before .before .before .before .before .before .before .before .on-map .ensures) ∙ not-false _ (free .1);
-        inside = sym (c .before .before .before .before .before .before .before .before .in-mask .ensures) ∙ not-false _ (c .before .before .before .before .before .before .before .if2 .left);
+        on = sym (c .before .before .before .before .before .before .before .on-map .ensures) ∙ not-false _ (free .1);
+        inside = sym (c .before .before .before .before .before .in-mask .ensures) ∙ not-false _ (c .before .before .before .before .if2 .left);
         columns = spans-fewer (a .plan .back) (columnAt (a .setup) (a .pen)) r (c .before .reach .result) (a .plan .left) (a .plan .right) second (spans .0);
-        source =
-            λ takes.
-            spans-fewer (a .plan .back) (a .pen .pointers .source .x) r (c .before .reach .result) 0 (a .setup .travel .source .map .width) second (spans .1 takes);
-        phase = phase (c .before .before .before .before);
+        taken =
+            spans-fewer (a .plan .back) (takenX (a .setup) (a .plan .takes) (a .pen)) r (c .before .reach .result) 0 (takenMap (a .setup) (a .plan .takes) .width) second (spans .1);
       },
       omega arith,
     )
@@ -77,9 +58,6 @@ block-length-spec =
     returns-2
     (λ c κs. search needs)
     (λ c κs. search needs)
-    returns-3
+    (λ c κs. c .before .before .before .before .before .before .pre)
     (λ c κs. search needs)
-    (λ c κs. search needs)
-    (λ c κs. search needs)
-    (λ c κs. search needs)
-    returns-4)
+    returns-3)

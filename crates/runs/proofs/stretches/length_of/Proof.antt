@@ -29,7 +29,7 @@ length-of-spec =
     (λ c. search needs)
     (λ c. search needs)
     (λ c. search needs)
-    (λ c κs. search needs)
+    (λ c κs. c .before .before .before .before .before .pre)
     returns-2
     returns-3
     returns-4

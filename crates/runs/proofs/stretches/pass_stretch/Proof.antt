@@ -12,7 +12,7 @@ use Rattle.runs.proofs.stretches.pass_stretch.Statement.{statement}
 use Rattle.runs.proofs.stretches.pass_stretch.Tie as tie
 
 pass-requires : tie.Need-pass-requires
-pass-requires c κs = let h = c .before .before .before .pre in (h .0, h .1 _ _ _ (c .before .drawing .given .1), h .2, h .3)
+pass-requires c κs = let h = c .before .before .before .pre in let room = h .1 _ _ _ (c .before .drawing .given .1) in (h .0, room .0, room .1, h .2, h .3)
 
 returns : tie.Need-returns
 returns c = λ column row e. absurd (false≢true (sym (ap isBlock (c .enum-told .given .1)) ∙ ap isBlock e))

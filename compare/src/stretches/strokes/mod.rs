@@ -1,0 +1,5 @@
+//! Lines and codes, whose stretches are strokes.
+
+pub mod cases;
+pub mod counts;
+pub mod rule;
