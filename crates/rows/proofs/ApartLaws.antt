@@ -10,7 +10,7 @@ use Rattle.pixels.specs.Maps.{bitsOf, isMotorola}
 use Rattle.pixels.specs.Inner.{shiftAt}
 use Rattle.pixels.proofs.Maps.{number-ends, shift-in-byte}
 use Rattle.rows.specs.declared.Lane.{Lane}
-use Rattle.rows.specs.Inner.{along, Reach, onward, Lies, Apart, Turned, sourceEnd}
+use Rattle.rows.specs.Inner.{along, Reach, onward, Apart, Turned, sourceEnd}
 use Rattle.rows.proofs.LaneLaws.{along-along, less-mul}
 use Rattle.rows.proofs.ByteLaws.{bits-some}
 use Rattle.rows.proofs.LiesLaws.{sum-forth, sum-back, reach-fewer, reach-onward}

@@ -17,7 +17,7 @@ use Rattle.pixels.specs.Inner.{placeAt, shiftAt}
 use Rattle.rows.specs.declared.Whole.{Whole}
 use Rattle.rows.specs.declared.Lane.{Lane}
 use Rattle.rows.specs.declared.patterns.Inks.{Inks}
-use Rattle.rows.specs.Inner.{wholly, along, Reach, changed, pixelNo, withPixelNo, sweptFrom, Meets, Inked, inksOf, inkedBy, patternAt, rowInked, Beside}
+use Rattle.rows.specs.Inner.{along, Reach, changed, pixelNo, withPixelNo, sweptFrom, Meets, Inked, inksOf, inkedBy, patternAt, rowInked, Beside}
 use Rattle.rows.proofs.ByteLaws.{Bytes, byte-field, byte-with, byte-place, byte-shift}
 use Rattle.rows.proofs.CarryLaws.{Masks, wholly-lt, wholly-none, kept, changed-back, changed-bytes, changed-other}
 use Rattle.rows.proofs.LiesLaws.{reach-fewer, reach-lowest}

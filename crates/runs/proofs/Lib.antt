@@ -6,4 +6,5 @@ pub mod PlainLaws
 pub mod RowLaws
 pub mod LaidLaws
 pub mod StepLaws
+pub mod EdgeLaws
 pub mod StrokeLaws

@@ -1,29 +1,26 @@
 -- A stretch of a plain row is a lane of pixels: each of its positions is painted, and makes its pixel by the blend.
 use mathlib.Core.Path.{_≡_, refl, sym, ap, subst, _∙_}
-use mathlib.Core.Bool.{Bool, true, false, not, _&&_, false≢true}
+use mathlib.Core.Bool.{Bool, true, false, _&&_, false≢true}
 use mathlib.Core.List.{List}
 use Prim.Native.Nat.{ℕ, zero, suc, _+_, _-_, _*_, _/_, _%_, _^_, _≤_, _<_}
 use native.Mathlib.Nat.{mul-le-mul-right, lt-of-le-of-lt, le-trans, min-le-left, min-le-right}
 use native.Mathlib.Omega.{arith}
-use lib.Dec.{ltb, eqb}
+use lib.Dec.{eqb}
 use lib.IntN.{pos}
 use lib.Signed.{ltZ}
-use borrow.Author.Tests.{ltb-true, eqb-true, not-true}
 use Rattle.numbers.specs.Choose.{choose}
 use Rattle.numbers.specs.Fields.{field}
-use Rattle.numbers.proofs.Choices.{choose-true, choose-part, and-left, and-right, asked}
+use Rattle.numbers.proofs.Choices.{choose-true, and-left, and-right}
 use Rattle.pixels.specs.declared.Map.{Map}
 use Rattle.pixels.specs.Maps.{bitsOf, startOf, placeOf, shiftOf}
-use Rattle.pixels.specs.Pixels.{byteAt, pixelAt, withPixel}
+use Rattle.pixels.specs.Pixels.{byteAt, pixelAt}
 use Rattle.pixels.specs.Inner.{placeAt}
-use Rattle.mixes.specs.Mixes.{mixed}
 use Rattle.mixes.specs.declared.logical.Blend.{Blend}
 use Rattle.mixes.specs.Inner.{blended}
 use Rattle.rows.specs.declared.Whole.{Whole}
-use Rattle.rows.specs.declared.Lane.{Lane}
-use Rattle.rows.specs.Inner.{wholly, Alike, along, Reach, pixelNo, withPixelNo, sweptFrom, swept, Lies}
+use Rattle.rows.specs.Inner.{wholly, along, Reach, pixelNo, withPixelNo, sweptFrom}
 use Rattle.parts.specs.declared.drawing.Drawing.the-variants.{Block}
-use Rattle.rules.specs.Maps.{endHolds, isInside}
+use Rattle.rules.specs.Maps.{endHolds}
 use Rattle.rules.proofs.PointerLaws.{inside-y}
 use Rattle.moves.specs.declared.Pen.{Pen}
 use Rattle.moves.specs.Turns.{turnedBy}
@@ -36,12 +33,9 @@ use Rattle.places.specs.declared.Setup.{Setup}
 use Rattle.places.specs.Places.{isMove, isFirst, isLast, onBoundary, nulledBy, isNulled, onMap, inMask}
 use Rattle.places.proofs.ModeLaws.{none-left}
 use Rattle.position.specs.declared.Blends.{Blends}
-use Rattle.position.specs.declared.Fate.{Fate}
-use Rattle.position.specs.declared.Fate.the-variants.{Moved, Nulled, OutsideMap, OutsideMask, MaskZero, Compared, Painted}
-use Rattle.position.specs.Fates.{destinationPixel, onZero, fateOf}
-use Rattle.position.specs.Drawn.{sourcePixel, picked, mixedPixel, drawnBy, drawn}
+use Rattle.position.specs.Drawn.{sourcePixel, drawn}
 use Rattle.position.specs.Inner.{InkBlends, Safe}
-use Rattle.position.proofs.Plain.{never, foreground, foreground-ink}
+use Rattle.position.proofs.Plain.{foreground}
 use Rattle.position.proofs.Safety.{held-within, picked-reads}
 use Rattle.position.proofs.Writing.{on-map}
 use Rattle.runs.specs.declared.plans.Plan.{Plan}

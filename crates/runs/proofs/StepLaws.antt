@@ -1,7 +1,7 @@
 -- One step of a stroke: the column and row, the number of the pixel and the error term each go on by their own sum.
 use mathlib.Core.Path.{_≡_, refl, sym, ap, _∙_}
-use mathlib.Core.Bool.{Bool, true, false, _&&_, false≢true}
-use Prim.Native.Nat.{ℕ, zero, suc, _+_, _-_, _*_, _/_, _%_, _^_, _≤_, _<_, zero-le}
+use mathlib.Core.Bool.{Bool, true, false, false≢true}
+use Prim.Native.Nat.{ℕ, suc, _+_, _-_, _*_, _/_, _%_, _^_, _≤_, _<_, zero-le}
 use native.Mathlib.Nat.{suc-mul, add-zero, mul-add-mod-self-right, mod-eq-of-lt, mul-add-div-right, div-eq-of-lt}
 use native.Mathlib.Omega.{arith}
 use lib.Dec.{ltb, lit<}

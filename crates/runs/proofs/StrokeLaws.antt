@@ -1,19 +1,19 @@
 -- A stroke that is inside: each position of it is painted, and its pixels are those of a trail, by induction on the steps.
 use mathlib.Core.Path.{_≡_, refl, sym, ap, subst, _∙_}
-use mathlib.Core.Bool.{Bool, true, false, not, _&&_, _||_, false≢true}
+use mathlib.Core.Bool.{Bool, true, false, not, _&&_, false≢true}
 use mathlib.Core.List.{List}
-use Prim.Native.Nat.{ℕ, zero, suc, _+_, _-_, _*_, _/_, _%_, _^_, _≤_, _<_, min}
+use Prim.Native.Nat.{ℕ, zero, suc, _+_, _-_, _/_, _%_, _^_, _≤_, _<_}
 use native.Mathlib.Nat.{add-zero, le-trans, mod-lt, lt-of-le-of-lt, min-le-left, min-le-right}
 use native.Mathlib.Numerals.{add-one}
 use native.Mathlib.Omega.{arith}
 use lib.Dec.{ltb, eqb, lit<}
-use lib.IntN.{ℤ, pos, _+ℤ_, _-ℤ_}
+use lib.IntN.{ℤ, pos, _+ℤ_}
 use lib.Signed.{ltZ}
-use borrow.Author.Tests.{eqb-true, not-true, lt-ltb, le-ltb, le-leb, ne-eqb}
+use borrow.Author.Tests.{eqb-true, not-true, lt-ltb, le-ltb, ne-eqb}
 use Rattle.numbers.specs.Choose.{choose}
 use Rattle.numbers.specs.Circles.{forth, circle}
 use Rattle.numbers.proofs.CircleLaws.{residue-lt}
-use Rattle.numbers.proofs.Choices.{choose-true, choose-false, choose-part, and-left, and-right, and-both}
+use Rattle.numbers.proofs.Choices.{choose-true, choose-false, choose-part, and-left, and-right}
 use Rattle.pixels.specs.declared.Map.{Map}
 use Rattle.pixels.specs.Maps.{bitsOf, startOf, placeOf}
 use Rattle.pixels.specs.Inner.{placeAt}
@@ -23,7 +23,7 @@ use Rattle.rows.specs.Inner.{along, Termed, pixelNo, withPixelNo, errorAt, numb
 use Rattle.parts.specs.declared.drawing.Drawing.{Drawing}
 use Rattle.parts.specs.declared.drawing.Drawing.the-variants.{Nothing, Line, Codes, Block}
 use Rattle.parts.specs.Drawings.{unfinished, withInside}
-use Rattle.rules.specs.Codes.{onlyMoves, stepsOf, codeAt}
+use Rattle.rules.specs.Codes.{stepsOf, codeAt}
 use Rattle.moves.specs.declared.Turn.{Turn}
 use Rattle.moves.specs.declared.Turn.the-variants.{Stay, Forth, Back}
 use Rattle.moves.specs.declared.Step.{Step}
@@ -33,9 +33,7 @@ use Rattle.moves.specs.Turns.{circledBy, pointStepped, spotStepped}
 use Rattle.moves.specs.Steps.{lineStep, codeStep}
 use Rattle.moves.specs.Moves.{right, sourceBy, destinationBy, penStepped, penWith, penGone, lineError, rises, lineMoved, codesMoved, movedBy, moved}
 use Rattle.places.specs.declared.Setup.{Setup}
-use Rattle.places.specs.declared.Brush.{Brush}
-use Rattle.places.specs.Places.{isWithin, columnOf, placeX, onMap, maskX, maskY, inMask, isMove, nulledBy, isNulled}
-use Rattle.places.proofs.Columns.{within-place}
+use Rattle.places.specs.Places.{isMove, nulledBy, isNulled}
 use Rattle.position.specs.declared.Blends.{Blends}
 use Rattle.position.specs.Drawn.{insideAt, crossed, drawn}
 use Rattle.position.specs.Inner.{InkBlends, Safe}
@@ -43,10 +41,11 @@ use Rattle.position.proofs.Safety.{held-within}
 use Rattle.runs.specs.declared.strokes.Stroke.{Stroke}
 use Rattle.runs.specs.Runs.{Run, begun, positioned, stepped, after}
 use Rattle.runs.specs.Inner.{leftEdge, rightEdge, topEdge, bottomEdge, goesAcross, goesBack, agrees, isPlain, isBlended, isStraight, isStroke, hasStrokes}
-use Rattle.runs.specs.Inner.{remainder, Spans, pixelNumber, Sized, columnAt, rowAt, strokeOf, strideOf, trailFrom, errorIn, drawingAt, drawingEnded, errorOf, penAt, Inside}
+use Rattle.runs.specs.Inner.{remainder, pixelNumber, Sized, columnAt, rowAt, strokeOf, strideOf, trailFrom, errorIn, drawingAt, drawingEnded, errorOf, penAt, Inside}
 use Rattle.runs.proofs.AfterLaws.{stepped-on}
 use Rattle.runs.proofs.StretchLaws.{and-no}
-use Rattle.runs.proofs.PlaceLaws.{spans-at, on-column, on-row, edge-below, within-mask}
+use Rattle.runs.proofs.PlaceLaws.{spans-at, on-column, on-row}
+use Rattle.runs.proofs.EdgeLaws.{column-in, row-in, width-in, height-in, on-in, inside-in}
 use Rattle.runs.proofs.PlainLaws.{Plained, plained, drawn-plain}
 use Rattle.rows.proofs.LaneLaws.{along-none}
 use Rattle.runs.proofs.RowLaws.{number-lt}
@@ -106,50 +105,6 @@ stroke-agrees s has e (Line rose done) = (has .across, has .down)
 stroke-agrees s has e (Codes count code done) =
     let step = codeStep (codeAt (s .travel .figure .steps) count code) in (agrees-self (step .x), agrees-self (step .y))
 stroke-agrees s has e (Block inside column row) = (agrees-self (codeStep 0 .x), agrees-self (codeStep 0 .y))
-
--- ---- a pixel within the edges
-
-module _ (b : Brush) (q : Pen) (x y : ℕ) (edge : ltZ (b .edge) (pos 0) ≡ true) (here : q .pointers .destination .x ≡ pos x)
-    (there : q .pointers .destination .y ≡ pos y) (columns : (leftEdge b ≤ x) × (x ≤ rightEdge b)) (rows : (topEdge b ≤ y) × (y ≤ bottomEdge b)) where
-  place-in : placeX b q ≡ pos x
-  unfolding placeX
-  place-in = (λ j. choose (ltZ (here j) (b .edge)) (b .edge) (here j)) ∙ choose-false (b .edge) (pos x) (edge-below (b .edge) x edge)
-
-  pub column-in : columnOf (placeX b q) ≡ x
-  unfolding columnOf
-  column-in = ap columnOf place-in
-
-  pub row-in : columnOf (q .pointers .destination .y) ≡ y
-  unfolding columnOf
-  row-in = ap columnOf there
-
-  pub width-in : x ≤ b .destination .width
-  width-in = le-trans (columns .1) (le-trans (min-le-left _ _) (min-le-left _ _))
-
-  pub height-in : y ≤ b .destination .height
-  height-in = le-trans (rows .1) (le-trans (min-le-left _ _) (min-le-left _ _))
-
-  pub on-in : onMap b q ≡ true
-  unfolding onMap isWithin
-  on-in =
-      and-both (isWithin (b .destination .width) (placeX b q)) _
-      (ap (isWithin (b .destination .width)) place-in ∙ le-leb x (b .destination .width) width-in)
-      (ap (isWithin (b .destination .height)) there ∙ le-leb y (b .destination .height) height-in)
-
-  pub inside-in : inMask b q ≡ true
-  unfolding inMask maskX maskY
-  inside-in = by (eqb (b .mask .mode) 0) (columns .0) (columns .1) (rows .0) (rows .1)
-    where
-      by : (t : Bool) → choose t 0 (b .mask .origin .x) ≤ x → x ≤ min (min (b .destination .width) 6143) (choose t 6143 (b .mask .origin .x + b .mask .map .width))
-          → choose t 0 (b .mask .origin .y) ≤ y → y ≤ min (min (b .destination .height) 6143) (choose t 6143 (b .mask .origin .y + b .mask .map .height))
-          → (t || (isWithin (b .mask .map .width) (maskX b q) && isWithin (b .mask .map .height) (maskY b q))) ≡ true
-      by true left right top bottom = refl
-      by false left right top bottom =
-          and-both (isWithin (b .mask .map .width) (maskX b q)) _
-          (ap (λ (z : ℤ). isWithin (b .mask .map .width) (z -ℤ pos (b .mask .origin .x))) place-in
-          ∙ within-mask x (b .mask .origin .x) (b .mask .map .width) left (le-trans right (min-le-right _ _)))
-          (ap (λ (z : ℤ). isWithin (b .mask .map .height) (z -ℤ pos (b .mask .origin .y))) there
-          ∙ within-mask y (b .mask .origin .y) (b .mask .map .height) top (le-trans bottom (min-le-right _ _)))
 
 -- ---- a stroke
 

@@ -1,14 +1,9 @@
 -- `return_row` is the definition, field by field: each call gives a part of its field.
-use mathlib.Core.Path.{_≡_, ap, _∙_}
+use mathlib.Core.Path.{_≡_}
 use mathlib.Core.Bool.{true}
-use lib.IntN.{ℤ}
-use Prim.Native.Nat.{ℕ}
 use mir.Val.{SFits}
 use mir.Syntax.{w16, w32}
 use mir.ValLaws.{toZ-ofZ}
-use Rattle.numbers.specs.Choose.{choose}
-use Rattle.moves.specs.declared.Turn.{Turn}
-use Rattle.moves.specs.Turns.{turnedBy, circledBy}
 use Rattle.moves.specs.Inner.{rowReturned}
 use Rattle.rules.specs.Maps.{isInside}
 use Rattle.rules.proofs.PointerLaws.{inside-x, inside-y}

@@ -1,6 +1,6 @@
 -- `rows::sweeps::span` is the largest number of so many bits, shifted.
-use mathlib.Core.Path.{_≡_, sym, ap, _∙_}
-use Prim.Native.Nat.{ℕ, _+_, _-_, _*_, _%_, _^_, _≤_, _<_}
+use mathlib.Core.Path.{_≡_, sym}
+use Prim.Native.Nat.{_+_, _-_, _*_, _%_, _^_, _≤_, _<_}
 use native.Mathlib.Omega.{arith}
 use lib.Pow.{pow-pos, pow-mono, ones-lt, shl-lt, shl-exact, high-ones}
 use borrow.Author.Needs.{needs}

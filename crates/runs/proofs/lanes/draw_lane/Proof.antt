@@ -1,12 +1,10 @@
 -- `draw_lane` sweeps a lane that is in phase, and draws another only where it lies apart.
 use mathlib.Core.Path.{_≡_, refl, sym, ap, _∙_}
 use mathlib.Core.Bool.{Bool, true, false, not, _&&_, false≢true}
-use Prim.Native.Nat.{ℕ}
 use borrow.Author.Needs.{needs}
 use borrow.Author.Tests.{not-true, not-false}
 use Rattle.numbers.proofs.Choices.{and-left, and-right}
-use Rattle.pixels.specs.Inner.{placeAt}
-use Rattle.rows.specs.Inner.{along, sweptFrom}
+use Rattle.rows.specs.Inner.{sweptFrom}
 use Rattle.runs.specs.Inner.{isPattern}
 use Rattle.runs.proofs.LaidLaws.{same, alike}
 use Rattle.runs.proofs.lanes.draw_lane.Statement.{statement}

@@ -1,10 +1,9 @@
 -- `plan_by` is the plan, part by part.
-use mathlib.Core.Path.{_≡_, refl, sym, subst, _∙_}
+use mathlib.Core.Path.{_≡_, refl, sym, subst}
 use mathlib.Core.Bool.{Bool, true, false}
 use borrow.Author.Needs.{needs}
 use Rattle.numbers.specs.Choose.{choose}
 use Rattle.places.specs.declared.Setup.{Setup}
-use Rattle.runs.specs.declared.plans.Taken.{Taken}
 use Rattle.runs.specs.declared.plans.Taken.the-variants.{Own, Source, Pattern}
 use Rattle.runs.specs.Inner.{hasRows, hasInks, RowsBy}
 use Rattle.runs.proofs.plans.plan_by.Statement.{statement}

@@ -1,16 +1,15 @@
 -- `draw_row` is a stretch: the lane of its row drawn, and the pen as many columns further.
 use mathlib.Core.Path.{_≡_, refl, sym, ap, subst, _∙_}
 use mathlib.Core.Bool.{true}
-use Prim.Native.Nat.{ℕ, suc, _-_, _<_, zero-le}
+use Prim.Native.Nat.{suc, _-_, _<_, zero-le}
 use native.Mathlib.Omega.{arith}
 use lib.ListN.{length}
-use borrow.Author.Needs.{needs}
 use borrow.Author.Tests.{not-true, not-false}
 use Rattle.pixels.specs.declared.Map.{Map}
 use Rattle.rows.specs.declared.Lane.{Lane}
 use Rattle.rows.specs.Inner.{sweptFrom}
 use Rattle.runs.specs.Runs.{begun, after}
-use Rattle.runs.specs.Inner.{takenMap, laneAt, rowOp, Makes, Laid, Stretch}
+use Rattle.runs.specs.Inner.{laneAt, rowOp, Makes, Laid, Stretch}
 use Rattle.runs.proofs.StretchLaws.{columnIn}
 use Rattle.runs.proofs.RowLaws.{row-laid, stretch-on, row-makes, stretch-run}
 use Rattle.runs.proofs.stretches.draw_row.Statement.{statement}

@@ -1,7 +1,6 @@
 -- `lane_of` is the definition, with each pixel's number found by a call.
-use mathlib.Core.Path.{_≡_, sym, subst, _∙_}
+use mathlib.Core.Path.{subst, _∙_}
 use borrow.Author.Needs.{needs}
-use Rattle.pixels.specs.declared.Map.{Map}
 use Rattle.runs.specs.Inner.{Sized, pixelNumber}
 use Rattle.runs.proofs.stretches.lane_of.Statement.{statement}
 use Rattle.runs.proofs.stretches.lane_of.Tie as tie

@@ -1,6 +1,6 @@
 -- `pass_stretch` is that of the block in hand.
 use mathlib.Core.Path.{sym, ap, _∙_}
-use mathlib.Core.Bool.{true, false, false≢true}
+use mathlib.Core.Bool.{false, false≢true}
 use Prim.Native.Nat.{_+_, _-_}
 use borrow.Author.Needs.{needs}
 use Rattle.parts.specs.declared.drawing.Drawing.the-variants.{Block}

@@ -1,6 +1,6 @@
 -- `reach` is the lesser of two spans, each of which has the fewer in it.
-use mathlib.Core.Path.{_≡_, subst}
-use Prim.Native.Nat.{ℕ, _≤_, _<_}
+use mathlib.Core.Path.{subst}
+use Prim.Native.Nat.{ℕ, _≤_}
 use native.Mathlib.Nat.{min-le-left, min-le-right}
 use native.Mathlib.Omega.{arith}
 use borrow.Author.Needs.{needs}

@@ -1,7 +1,7 @@
 -- `draw_stroke` is the stroke from the pen on, where that is inside, and nothing otherwise.
 use mathlib.Core.Path.{_≡_, refl, sym, ap, subst, _∙_}
-use mathlib.Core.Bool.{Bool, true, false, not, _||_}
-use Prim.Native.Nat.{ℕ, _≤_, _<_, zero-le}
+use mathlib.Core.Bool.{Bool, not}
+use Prim.Native.Nat.{ℕ, _<_, zero-le}
 use native.Mathlib.Omega.{arith}
 use lib.Dec.{eqb}
 use lib.IntN.{ℤ}
@@ -11,7 +11,7 @@ use mir.ValLaws.{toZ-ofZ}
 use borrow.Author.Needs.{needs}
 use borrow.Author.Tests.{eqb-false, not-false}
 use Rattle.runs.specs.Runs.{begun, after}
-use Rattle.runs.specs.Inner.{goesBack, leftEdge, rightEdge, topEdge, bottomEdge, Spans, columnAt, rowAt, strokeOf, Inside}
+use Rattle.runs.specs.Inner.{Spans, strokeOf}
 use Rattle.runs.proofs.PlaceLaws.{neither}
 use Rattle.runs.proofs.strokes.draw_stroke.Statement.{statement}
 use Rattle.runs.proofs.strokes.draw_stroke.Tie as tie

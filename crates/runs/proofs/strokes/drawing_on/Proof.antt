@@ -1,9 +1,8 @@
 -- `drawing_on` is the definition at each kind of drawing that is a stroke.
 use mathlib.Core.Path.{sym, ap, _∙_}
 use mathlib.Core.Bool.{false≢true}
-use native.Mathlib.Omega.{arith}
 use borrow.Author.Needs.{needs}
-use Rattle.runs.specs.Inner.{isStroke, doneIn}
+use Rattle.runs.specs.Inner.{isStroke}
 use Rattle.runs.proofs.strokes.drawing_on.Statement.{statement}
 use Rattle.runs.proofs.strokes.drawing_on.Tie as tie
 

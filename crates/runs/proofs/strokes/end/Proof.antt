@@ -1,5 +1,4 @@
 -- `end` makes the pixel only where the stroke ends.
-use mathlib.Core.Path.{refl}
 use borrow.Author.Needs.{needs}
 use Rattle.runs.proofs.strokes.end.Statement.{statement}
 use Rattle.runs.proofs.strokes.end.Tie as tie

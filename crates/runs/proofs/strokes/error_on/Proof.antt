@@ -1,6 +1,5 @@
 -- `error_on` is the definition at each kind of drawing.
 use mir.Syntax.{w32}
-use mir.Val.{SFits}
 use mir.ValLaws.{toZ-ofZ}
 use borrow.Author.Needs.{needs}
 use Rattle.runs.proofs.strokes.error_on.Statement.{statement}

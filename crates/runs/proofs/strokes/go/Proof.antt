@@ -1,11 +1,10 @@
 -- `go` is the stroke's positions: the pixels of its trail, and the pen by the number of the pixel there.
-use mathlib.Core.Path.{_≡_, refl, sym, ap, subst, _∙_}
-use mathlib.Core.Bool.{Bool, true, false, _&&_}
-use mathlib.Core.List.{List}
-use Prim.Native.Nat.{ℕ, _+_, _/_, _%_, _^_, _≤_, _<_}
+use mathlib.Core.Path.{_≡_, sym, ap, subst, _∙_}
+use mathlib.Core.Bool.{true, _&&_}
+use Prim.Native.Nat.{ℕ, _+_, _/_, _%_, _≤_, _<_}
 use native.Mathlib.Omega.{arith}
 use lib.Dec.{ltb, eqb}
-use lib.IntN.{ℤ, pos}
+use lib.IntN.{pos}
 use lib.ListN.{length}
 use mir.Syntax.{w32}
 use mir.ValLaws.{toZ-ofZ}
@@ -20,8 +19,8 @@ use Rattle.mixes.specs.Inner.{blended}
 use Rattle.rows.specs.declared.Trail.{Trail}
 use Rattle.rows.specs.Inner.{wholly, Alike, pixelNo, withPixelNo, errorAt, numberAt, turnsAt, traced}
 use Rattle.rows.proofs.TraceLaws.{error-lt}
-use Rattle.runs.specs.Runs.{Run, begun, after}
-use Rattle.runs.specs.Inner.{trailFrom, strokeOf, errorOf, drawingAt, drawingEnded, penAt}
+use Rattle.runs.specs.Runs.{begun, after}
+use Rattle.runs.specs.Inner.{trailFrom, errorOf, penAt}
 use Rattle.runs.proofs.StrokeLaws.{stroke-termed, place-held, stroke-done, is-stroke}
 use Rattle.runs.proofs.strokes.go.Statement.{statement}
 use Rattle.runs.proofs.strokes.go.Tie as tie

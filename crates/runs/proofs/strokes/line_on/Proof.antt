@@ -1,6 +1,5 @@
 -- `line_on` is the definition's choice.
 use native.Mathlib.Omega.{arith}
-use borrow.Author.Needs.{needs}
 use Rattle.runs.proofs.strokes.line_on.Statement.{statement}
 use Rattle.runs.proofs.strokes.line_on.Tie as tie
 

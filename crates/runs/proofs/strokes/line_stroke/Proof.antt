@@ -1,8 +1,6 @@
 -- `line_stroke` is the definition, part by part.
 use mathlib.Core.Path.{ap, _∙_}
-use lib.IntN.{ℤ}
 use mir.Syntax.{w32}
-use mir.Val.{SFits}
 use mir.ValLaws.{toZ-ofZ}
 use borrow.Author.Needs.{needs}
 use Rattle.parts.specs.Reduced.{termReduced}

@@ -2,7 +2,6 @@
 use native.Mathlib.Omega.{arith}
 use mir.Syntax.{w32}
 use mir.ValLaws.{toZ-ofZ, toZ-pos}
-use borrow.Author.Needs.{needs}
 use Rattle.numbers.proofs.SignedLaws.{sub-fits}
 use Rattle.runs.proofs.strokes.lower.Statement.{statement}
 use Rattle.runs.proofs.strokes.lower.Tie as tie

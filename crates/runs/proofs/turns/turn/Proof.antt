@@ -1,9 +1,8 @@
 -- `turn` is some positions that are alike, or some one by one.
 use mathlib.Core.Path.{_≡_, sym, ap, _∙_}
 use mathlib.Core.List.{List}
-use Prim.Native.Nat.{ℕ, _≤_, _<_}
+use Prim.Native.Nat.{ℕ}
 use native.Mathlib.Omega.{arith}
-use lib.ListN.{length}
 use borrow.Author.Needs.{needs}
 use Rattle.runs.specs.Runs.{Run, begun, after}
 use Rattle.runs.proofs.RunLaws.{reached, after-done, done-some}
