@@ -7,4 +7,5 @@ pub mod RowLaws
 pub mod LaidLaws
 pub mod StepLaws
 pub mod EdgeLaws
+pub mod StrokedLaws
 pub mod StrokeLaws

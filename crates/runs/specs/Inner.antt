@@ -35,10 +35,12 @@ use Rattle.places.specs.declared.Setup.{Setup}
 use Rattle.places.specs.Places.{columnOf, placeX, onMap, inMask}
 use Rattle.position.specs.declared.Blends.{Blends}
 use Rattle.position.specs.Drawn.{drawn}
+use Rattle.runs.specs.declared.Ran.{Ran}
 use Rattle.runs.specs.declared.plans.Plan.{Plan}
 use Rattle.runs.specs.declared.plans.Taken.{Taken}
 use Rattle.runs.specs.declared.plans.Taken.the-variants.{Own, Source, Pattern}
 use Rattle.runs.specs.declared.strokes.Stroke.{Stroke}
+use Rattle.runs.specs.Runs.{begun, after}
 
 -- ---- positions of one row
 
@@ -397,3 +399,9 @@ pub record Inside (s : Setup) (pen : Pen) (k : Stroke) (x y across down : ℕ) :
   pub some : (0 < across) × (0 < down)
   pub columns : Spans (goesBack (k .turned .x)) x across (leftEdge (s .brush)) (rightEdge (s .brush))
   pub rows : Spans (goesBack (k .turned .y)) y down (topEdge (s .brush)) (bottomEdge (s .brush))
+
+-- ---- what was done
+
+-- so many positions from the pen on leave this pen and this memory
+abbrev pub Did : Setup → Pen → (entry exit : List ℕ) → Ran → Type 0
+Did s pen entry exit r = after s (r .done) (begun pen entry) ≡ record { pen = r .pen; memory = exit; done = r .done }

@@ -9,9 +9,8 @@ ghost use Rattle.moves.specs.Moves.{moved};
 ghost use Rattle.moves.specs.Inner.{OnCircle, pointersInside, columnsPassed};
 ghost use Rattle.position.specs.declared.Blends.{Blends};
 ghost use Rattle.position.specs.Inner.{InkBlends, Safe};
-ghost use Rattle.runs.specs.Runs.{begun, after};
 ghost use Rattle.runs.specs.Inner as inner;
-ghost use Rattle.runs.specs.Inner.{Planned, Blended, takenMap, Spans, Sized, columnAt, laneAt, Stretch};
+ghost use Rattle.runs.specs.Inner.{Planned, Blended, takenMap, Spans, Sized, columnAt, laneAt, Stretch, Did};
 use crate::Ran;
 use crate::lanes::draw_lane;
 use crate::plans::Plan;
@@ -221,7 +220,7 @@ pub(crate) fn draw_row(setup: Setup, plan: Plan, memory: &mut [u8], pen: Pen, al
     requires { ⌜ Planned setup plan × Safe setup (length (now memory)) pen ⌝ }
     ensures { λ r. ⌜ (r .done ≤ allowance)
         × ((blends : Blends) → InkBlends (setup .brush) blends → Blended setup blends plan
-        → after setup (r .done) (begun pen (now (memory .entry))) ≡ record { pen = r .pen; memory = now (memory .exit); done = r .done }) ⌝ }
+        → Did setup pen (now (memory .entry)) (now (memory .exit)) r) ⌝ }
 {
     let count = length_of(setup, plan, pen, allowance);
     if count == 0 {

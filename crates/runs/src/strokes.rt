@@ -13,9 +13,8 @@ ghost use Rattle.rows.specs.Inner.{wholly, Alike, pixelNo, withPixelNo};
 ghost use Rattle.moves.specs.Moves.{codePassed};
 ghost use Rattle.position.specs.declared.Blends.{Blends};
 ghost use Rattle.position.specs.Inner.{InkBlends, Safe};
-ghost use Rattle.runs.specs.Runs.{begun, after};
 ghost use Rattle.runs.specs.Inner as inner;
-ghost use Rattle.runs.specs.Inner.{isStroke, goesAcross, Sized, raised, errorIn, lineStroke, codeStroke, doneIn, Planned, BlendOf, Blended, Inside};
+ghost use Rattle.runs.specs.Inner.{isStroke, goesAcross, Sized, raised, errorIn, lineStroke, codeStroke, doneIn, Planned, BlendOf, Blended, Inside, Did};
 use crate::Ran;
 use crate::plans::Plan;
 use crate::plans::goes_across;
@@ -350,7 +349,7 @@ fn go(
     ensures { λ r. ⌜ (r .done ≤ allowance)
         × ((blends : Blends) → InkBlends (setup .brush) blends
         → BlendOf setup (blends .foreground) whole
-        → after setup (r .done) (begun pen (now (memory .entry))) ≡ record { pen = r .pen; memory = now (memory .exit); done = r .done }) ⌝ }
+        → Did setup pen (now (memory .entry)) (now (memory .exit)) r) ⌝ }
 {
     let trail = trail_of(setup.brush.destination, stroke, x, y);
     let count = count_of(stroke, across, down, allowance);
@@ -382,7 +381,7 @@ pub(crate) fn draw_stroke(
     requires { ⌜ Planned setup plan × (plan .strokes ≡ true) × Safe setup (length (now memory)) pen ⌝ }
     ensures { λ r. ⌜ (r .done ≤ allowance)
         × ((blends : Blends) → InkBlends (setup .brush) blends → Blended setup blends plan
-        → after setup (r .done) (begun pen (now (memory .entry))) ≡ record { pen = r .pen; memory = now (memory .exit); done = r .done }) ⌝ }
+        → Did setup pen (now (memory .entry)) (now (memory .exit)) r) ⌝ }
 {
     let drawing = pen.drawing;
     let stroke = stroke_of(setup.travel, pen.e, drawing);

@@ -7,8 +7,7 @@ ghost use lib.ListN.{length};
 ghost use Rattle.parts.specs.Drawings.{unfinished};
 ghost use Rattle.position.specs.declared.Blends.{Blends};
 ghost use Rattle.position.specs.Inner.{InkBlends, Safe};
-ghost use Rattle.runs.specs.Runs.{begun, after};
-ghost use Rattle.runs.specs.Inner.{Planned, Blended};
+ghost use Rattle.runs.specs.Inner.{Planned, Blended, Did};
 use crate::Ran;
 use crate::plans::Plan;
 use crate::plans::least;
@@ -24,7 +23,7 @@ fn draw_alike(setup: Setup, plan: Plan, memory: &mut [u8], pen: Pen, allowance: 
     requires { ⌜ Planned setup plan × Safe setup (length (now memory)) pen ⌝ }
     ensures { λ r. ⌜ (r .done ≤ allowance)
         × ((blends : Blends) → InkBlends (setup .brush) blends → Blended setup blends plan
-        → after setup (r .done) (begun pen (now (memory .entry))) ≡ record { pen = r .pen; memory = now (memory .exit); done = r .done }) ⌝ }
+        → Did setup pen (now (memory .entry)) (now (memory .exit)) r) ⌝ }
 {
     if plan.strokes {
         draw_stroke(setup, plan, memory, pen, allowance)
@@ -62,7 +61,7 @@ pub(crate) fn turn(
         × (0 < allowance) ⌝ }
     ensures { λ r. ⌜ (0 < r .done)
         × (r .done ≤ allowance)
-        × (after setup (r .done) (begun pen (now (memory .entry))) ≡ record { pen = r .pen; memory = now (memory .exit); done = r .done }) ⌝ }
+        × Did setup pen (now (memory .entry)) (now (memory .exit)) r ⌝ }
 {
     let ran = draw_alike(setup, plan, memory, pen, allowance);
     if 0 < ran.done {

@@ -21,7 +21,8 @@ use Rattle.rows.specs.Inner.{wholly, Alike, pixelNo, withPixelNo, errorAt, numb
 use Rattle.rows.proofs.TraceLaws.{error-lt}
 use Rattle.runs.specs.Runs.{begun, after}
 use Rattle.runs.specs.Inner.{trailFrom, errorOf, penAt}
-use Rattle.runs.proofs.StrokeLaws.{stroke-termed, place-held, stroke-done, is-stroke}
+use Rattle.runs.proofs.StrokedLaws.{stroke-termed}
+use Rattle.runs.proofs.StrokeLaws.{place-held, stroke-done, is-stroke}
 use Rattle.runs.proofs.strokes.go.Statement.{statement}
 use Rattle.runs.proofs.strokes.go.Tie as tie
 
