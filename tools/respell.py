@@ -57,12 +57,18 @@ def names_of(text):
     return {n: m for n, m in new.items() if n != m}, set(new.values())
 
 
+def edited(word, new, known):
+    if snake(word) == word:
+        return word
+    return new.get(word, snake(word) if snake(word) in known else word)
+
+
 def main():
     sources = sorted(glob.glob("crates/**/*.antt", recursive=True) + glob.glob("crates/**/*.rt", recursive=True))
     text = {p: read(p) for p in sources}
     new, known = names_of(text)
     for path in sources:
-        here = dict(new)
+        here = {n: m for n, m in new.items() if snake(n) != n} if path.endswith(".rt") else dict(new)
         for name, files in LEMMAS.items():
             if path[len("crates/"):].rsplit(".", 1)[0] in files:
                 here[name] = name + "_lem"
@@ -75,7 +81,7 @@ def main():
 
         text[path] = TOKEN.sub(turned, before)
     for path in sorted(glob.glob("crates/*/must-fail/*.edit")):
-        text[path] = TOKEN.sub(lambda m: new.get(m.group(0), snake(m.group(0)) if snake(m.group(0)) in known else m.group(0)), read(path))
+        text[path] = TOKEN.sub(lambda m: edited(m.group(0), new, known), read(path))
     for path in ["README.md"] + sorted(glob.glob("docs/**/*.md", recursive=True)):
         def quoted(m):
             word = m.group(1)

@@ -1,4 +1,6 @@
 // The bench: reads commands line by line from standard input, does them over 64 zero bytes, answers each, and shows the memory.
+#![tactic(auto)]
+
 ghost use Rattle.std.specs.Prelude.{◌≡◌, false, ◌≤◌, ◌<◌, length, replicate};
 ghost use Rattle.io.specs.Counts.{IsPrefixLen};
 ghost use Rattle.bench.specs.Inner.{session_of, emptied};
@@ -11,7 +13,7 @@ use libc::{STDIN_FILENO, STDOUT_FILENO};
 
 // The bench between two reads: whether there may be more to read, and how many reads are left. A proved loop has to end, and
 // nothing says that the input does, so they are counted down from a number that no run uses up.
-#[derive(Drop)]
+#[derive(Clone, Copy)]
 struct Reading {
     bench: Bench,
     more: bool,

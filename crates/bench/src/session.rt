@@ -12,7 +12,7 @@ use console::texts::{answer_text, memory_text, put};
 use coprocessor::Coprocessor;
 
 // The record, how many bytes of the line under way have come, that line's number, and how many bytes of text wait.
-#[derive(Drop)]
+#[derive(Clone, Copy)]
 pub(crate) struct Bench {
     pub(crate) board: Coprocessor,
     pub(crate) count: usize,

@@ -1,4 +1,6 @@
 // The coprocessor for C and Rust: each call works on a state image of 115 bytes that the caller owns, and asks once whether it is valid.
+#![tactic(auto)]
+
 ghost use Rattle.std.specs.Prelude.{◌≡◌};
 ghost use Rattle.board.specs.Calls.{call_answer, fresh_number, fresh_image, write_number, write_image, read_number, run_number, run_image, run_bytes, load_number};
 

@@ -9,7 +9,7 @@ use entry::write_own;
 use parts::refusals::{Refusal, accepts, number};
 
 // A command's answer, and the record after it.
-#[derive(Drop)]
+#[derive(Clone, Copy)]
 pub struct Told {
     pub answer: Answer,
     pub coprocessor: Coprocessor,

@@ -1,4 +1,6 @@
 // The bench program's console: what a line of its input asks for, what comes of that, and how it is written.
+#![tactic(auto)]
+
 pub mod answers;
 pub mod commands;
 mod digits;
@@ -7,7 +9,7 @@ pub mod texts;
 mod words;
 
 // What a line asks for.
-#[derive(Drop)]
+#[derive(Clone, Copy)]
 pub enum Command {
     Write {
         offset: u32,
@@ -22,7 +24,7 @@ pub enum Command {
 }
 
 // What comes of a command.
-#[derive(Drop)]
+#[derive(Clone, Copy)]
 pub enum Answer {
     Done { positions: u32 },
     Refused { number: u32 },
@@ -31,14 +33,14 @@ pub enum Answer {
 }
 
 // What a word is as a number.
-#[derive(Drop)]
+#[derive(Clone, Copy)]
 pub(crate) enum Number {
     Is(u32),
     Not,
 }
 
 // What stands for a number that is wider than 32 bits: its low bits, or the largest number.
-#[derive(Drop)]
+#[derive(Clone, Copy)]
 pub(crate) enum Wide {
     Low,
     Largest,

@@ -1,4 +1,6 @@
 // The coprocessor's record, and the calls on it.
+#![tactic(auto)]
+
 use parts::drawing::Drawing;
 use parts::refusals::Refusal;
 use parts::shapes::Registers;
@@ -14,7 +16,7 @@ mod valid;
 mod writes;
 
 // The state of one coprocessor: its memory's size, its maps and registers, and the drawing in hand.
-#[derive(Drop)]
+#[derive(Clone, Copy)]
 pub struct Coprocessor {
     pub size: u32,
     pub maps: [Map; 4],
@@ -23,14 +25,14 @@ pub struct Coprocessor {
 }
 
 // What a fresh state, a write or a load answers: the refusal, if any, and the record.
-#[derive(Drop)]
+#[derive(Clone, Copy)]
 pub struct Written {
     pub refusal: Refusal,
     pub coprocessor: Coprocessor,
 }
 
 // What a read answers: the refusal, if any, the value, and the record as it was.
-#[derive(Drop)]
+#[derive(Clone, Copy)]
 pub struct Found {
     pub refusal: Refusal,
     pub value: u32,
@@ -38,7 +40,7 @@ pub struct Found {
 }
 
 // What a run answers: the refusal, if any, the positions done, and the record.
-#[derive(Drop)]
+#[derive(Clone, Copy)]
 pub struct Drawn {
     pub refusal: Refusal,
     pub done: u32,

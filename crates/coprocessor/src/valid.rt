@@ -41,7 +41,7 @@ impl Coprocessor {
     }
 
     // Whether the drawing in hand, if there is one, can go on.
-    fn goes_on_lem(self) -> bool
+    fn goes_on(self) -> bool
         ensures { result ≡ goes_on self }
     {
         let drawing = self.drawing;

@@ -1,4 +1,6 @@
 // The entry for a board's main program: it changes the record in the caller's own storage.
+#![tactic(auto)]
+
 ghost use Rattle.std.specs.Prelude.{◌≡◌};
 ghost use Rattle.coprocessor.specs.Writes.{write_answer};
 

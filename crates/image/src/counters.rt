@@ -7,7 +7,7 @@ use rules::operations::{is_codes, is_line};
 
 // The drawing in hand, as the image has it: state, positions done in this row, line or code, rows or codes done, and codes in
 // the starting write.
-#[derive(Drop)]
+#[derive(Clone, Copy)]
 pub struct Counters {
     pub state: u8,
     pub done: u16,

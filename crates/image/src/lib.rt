@@ -1,4 +1,6 @@
 // The bytes of a state image, and the words that registers read back: all that knows no record.
+#![tactic(auto)]
+
 pub mod counters;
 pub mod laying;
 pub mod layout;

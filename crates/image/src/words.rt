@@ -8,7 +8,7 @@ ghost use Rattle.image.specs.Inner.{mix_bytes, point_bytes, spot_bytes, word_byt
 use numbers::circles::{half_word, word};
 use parts::shapes::{Colours, Point, Registers, Spot};
 use pixels::Map;
-use rules::maps::map_at_lem;
+use rules::maps::map_at;
 
 pub(crate) fn point_word(point: Point) -> u32
     ensures { le 4 result ≡ point_bytes point }
@@ -58,7 +58,7 @@ fn mixes_word(colours: Colours) -> u32
 pub fn bank(maps: [Map; 4], registers: Registers) -> [u32; 32]
     ensures { word_bytes result ≡ bank_of maps registers }
 {
-    let map = map_at_lem(maps, registers.index as u32);
+    let map = map_at(maps, registers.index as u32);
     let terms = registers.terms;
     let colours = registers.colours;
     let dimensions = registers.figure.dimensions;

@@ -6,7 +6,7 @@ use mathlib.Core.List.{List, [], ◌∷◌}
 use Prim.Native.Nat.{ℕ, zero, suc, ◌%◌, ◌<◌}
 use native.Mathlib.Omega.{arith}
 use lib.ListN.{length, get_or, set}
-use lib.Seq.{get_or-set_same, get_or_set_other}
+use lib.Seq.{get_or-set_same, get_or-set_other}
 use Rattle.numbers.specs.declared.bytes.Write.{Write}
 use Rattle.numbers.proofs.Choices.{and_left, and_right}
 use Rattle.pixels.specs.declared.Map.{Map}
@@ -58,4 +58,4 @@ module _ (w : Write) (c : Coprocessor) where
 
   pub map_other : (field : ℕ) → (field % 4 ≡ c.registers.index % 4 → ⊥) → map_at (stored w c).maps field ≡ map_at c.maps field
   unfolding map_at stored
-  map_other field other = get_or_set_other c.maps (c.registers.index % 4) (field % 4) _ fresh_map other
+  map_other field other = get_or-set_other c.maps (c.registers.index % 4) (field % 4) _ fresh_map other

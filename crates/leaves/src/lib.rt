@@ -1,4 +1,6 @@
 // The leaves of all drawing, for C and Rust: a mix of two pixels, a compare condition, a pixel in lent memory.
+#![tactic(auto)]
+
 ghost use Rattle.std.specs.Prelude.{◌≡◌, leb};
 ghost use Rattle.numbers.specs.Choose.{choose};
 ghost use Rattle.mixes.specs.Mixes.{mixed};

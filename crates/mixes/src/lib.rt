@@ -1,4 +1,6 @@
 // The mixes, the plane mask and the compare conditions, over pixels of up to 8 bits.
+#![tactic(auto)]
+
 ghost use Rattle.std.specs.Prelude.{◌≡◌, ◌^◌, ◌≤◌, ◌<◌};
 ghost use Rattle.mixes.specs.Mixes.{depth_of, merged, mixed};
 ghost use Rattle.mixes.specs.Inner.{Cut};
@@ -11,7 +13,7 @@ pub mod conditions;
 pub mod logical;
 
 // The bits of a pixel, the pixel that is all ones, and the plane mask cut to them: worked once for a drawing.
-#[derive(Drop)]
+#[derive(Clone, Copy)]
 pub struct Depth {
     pub bits: u32,
     pub ones: u32,

@@ -7,7 +7,7 @@ use crate::Depth;
 
 // A logical mix under a plane mask, by the bits of D that it turns: the exclusive or of four masks, of which one counts always,
 // one where S is 1, one where D is 1, and one where both are.
-#[derive(Drop)]
+#[derive(Clone, Copy)]
 pub struct Blend {
     pub always: u32,
     pub source: u32,

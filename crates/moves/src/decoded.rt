@@ -4,7 +4,7 @@ ghost use Rattle.moves.specs.Decoded.{sign_of, straight_of, course_of, travel_of
 use crate::{Course, Ground, Step, Travel, Turn};
 use parts::shapes::{Figure, Terms};
 use pixels::Map;
-use rules::maps::map_at_lem;
+use rules::maps::map_at;
 use rules::operations::{
     function_of, mode_of, octant_of, pattern_field, source_field, uses_pattern, uses_source,
 };
@@ -64,11 +64,11 @@ pub fn travel_of(figure: Figure, maps: [Map; 4], terms: Terms) -> Travel
     let course = course_of(operations);
     let source = Ground {
         used: uses_source(operations),
-        map: map_at_lem(maps, source_field(operations)),
+        map: map_at(maps, source_field(operations)),
     };
     let pattern = Ground {
         used: uses_pattern(operations),
-        map: map_at_lem(maps, pattern_field(operations)),
+        map: map_at(maps, pattern_field(operations)),
     };
     Travel {
         course,

@@ -1,4 +1,6 @@
 // The move to the next position: pointers, E and counters. It never reads memory.
+#![tactic(auto)]
+
 use parts::drawing::Drawing;
 use parts::shapes::{Figure, Pointers};
 use pixels::Map;
@@ -11,7 +13,7 @@ mod turns;
 pub mod ways;
 
 // One pointer's part of a step.
-#[derive(Drop)]
+#[derive(Clone, Copy)]
 pub enum Turn {
     Stay,
     Forth,
@@ -19,7 +21,7 @@ pub enum Turn {
 }
 
 // A step in X and Y.
-#[derive(Drop)]
+#[derive(Clone, Copy)]
 pub struct Step {
     pub x: Turn,
     pub y: Turn,
@@ -27,7 +29,7 @@ pub struct Step {
 
 // Which way a drawing goes: the octant's signs, a line's step along its major axis, whether it is a read form, whether it inverts,
 // and whether it draws an area boundary.
-#[derive(Drop)]
+#[derive(Clone, Copy)]
 pub struct Course {
     pub x: Turn,
     pub y: Turn,
@@ -39,7 +41,7 @@ pub struct Course {
 
 // How the pen comes to the next position: along a step of a line or code, to the next column of a row, over a row's end, or not at
 // all; and the drawing in hand there. Along a step, source and pattern go by `from` and the destination by `to`.
-#[derive(Drop)]
+#[derive(Clone, Copy)]
 pub(crate) enum Way {
     Along {
         from_x: Turn,
@@ -61,7 +63,7 @@ pub(crate) enum Way {
 }
 
 // A map in which a pointer steps, and whether the drawing uses it.
-#[derive(Drop)]
+#[derive(Clone, Copy)]
 pub struct Ground {
     pub map: Map,
     pub used: bool,
@@ -69,7 +71,7 @@ pub struct Ground {
 
 // What the moves need, which a drawing does not change: which way it goes, the maps of the source and pattern pointers, the
 // figure, K1 and K2.
-#[derive(Drop)]
+#[derive(Clone, Copy)]
 pub struct Travel {
     pub course: Course,
     pub source: Ground,
@@ -80,7 +82,7 @@ pub struct Travel {
 }
 
 // What a drawing changes beside memory.
-#[derive(Drop)]
+#[derive(Clone, Copy)]
 pub struct Pen {
     pub pointers: Pointers,
     pub e: i32,

@@ -6,7 +6,7 @@ use crate::{Course, Step, Turn};
 use rules::codes::direction_of;
 
 // The step of a line at this error.
-pub fn line_step_lem(course: Course, e: i32) -> Step
+pub fn line_step(course: Course, e: i32) -> Step
     ensures { result ≡ line_step course e }
 {
     if e < 0 {
@@ -31,7 +31,7 @@ fn turn_of(direction: u8) -> Turn
 }
 
 // The step of a code.
-pub fn code_step_lem(code: u8) -> Step
+pub fn code_step(code: u8) -> Step
     ensures { result ≡ code_step code }
 {
     let direction = direction_of(code);

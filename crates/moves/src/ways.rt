@@ -4,7 +4,7 @@ ghost use Rattle.parts.specs.Drawings.{with_inside};
 ghost use Rattle.moves.specs.Moves as defined;
 ghost use Rattle.moves.specs.Inner.{went_by};
 
-use crate::steps::{code_step_lem, goes_up, line_step_lem};
+use crate::steps::{code_step, goes_up, line_step};
 use crate::{Course, Pen, Step, Travel, Turn, Way};
 use numbers::circles::term_sum;
 use parts::drawing::Drawing;
@@ -51,7 +51,7 @@ fn rises(travel: Travel, e: i32) -> bool
     ensures { result ≡ defined.rises travel e }
 {
     let course = travel.course;
-    let step = line_step_lem(course, e);
+    let step = line_step(course, e);
     let down = step.y;
     course.bounds & goes_up(down)
 }
@@ -64,7 +64,7 @@ fn line_way(travel: Travel, done: u16, pen: Pen) -> Way
     if done < travel.figure.dimensions.x {
         way_along(
             course,
-            line_step_lem(course, pen.e),
+            line_step(course, pen.e),
             line_error(travel, pen.e),
             Drawing::Line {
                 done: done + 1,
@@ -107,7 +107,7 @@ fn code_way(travel: Travel, count: u8, code: u16, done: u16, pen: Pen) -> Way
     if done < steps_of(current) {
         way_along(
             course,
-            code_step_lem(current),
+            code_step(current),
             pen.e,
             Drawing::Codes {
                 count,

@@ -86,6 +86,7 @@ lay_last b at i count rest h =
 pub read_next : (b : List ℕ) (at i count : ℕ) → 0 < i → i ≤ count → at + count ≤ length b
     → number_of (take (count - (i - 1)) (drop (at + (i - 1)) b)) ≡ number_of (take (count - i) (drop (at + i) b)) * 256 + get_or b (at + (i - 1)) 0
 unfolding number_of
+read_next b at zero count some h room = elim some [ ]
 read_next b at (suc j) count some h room =
     let more : count - (suc j - 1) ≡ suc (count - suc j) = omega arith in
     let here : at + (suc j - 1) ≡ at + j = omega arith in

@@ -4,7 +4,7 @@ ghost use Rattle.numbers.specs.Choose.{choose};
 ghost use Rattle.numbers.specs.Bytes.{le, number_of, byte_of, part_of, low, covers, latched};
 
 // A write of `length` bytes of `value` from `offset` on.
-#[derive(Drop)]
+#[derive(Clone, Copy)]
 pub struct Write {
     pub offset: u32,
     pub length: u32,

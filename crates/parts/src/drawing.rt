@@ -3,7 +3,7 @@ ghost use Rattle.parts.specs.Drawings.{unfinished, inside_of};
 
 // The drawing in hand, with its counters: positions done in this line, code or row, and codes or rows done. A line that draws an
 // area boundary keeps whether the step to its position rose to another row, and an area fill whether it is inside.
-#[derive(Drop)]
+#[derive(Clone, Copy)]
 pub enum Drawing {
     Nothing { stopped: bool },
     Line { rose: bool, done: u16 },

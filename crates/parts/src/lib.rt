@@ -1,4 +1,6 @@
 // The groups of the coprocessor's record, what each takes from a register write, and whether it is reduced.
+#![tactic(auto)]
+
 pub mod drawing;
 pub mod fresh;
 pub mod latches;

@@ -1,7 +1,7 @@
 // The registers in groups: what changes together, or is asked together, stands together.
 
 // E, K1 and K2.
-#[derive(Drop)]
+#[derive(Clone, Copy)]
 pub struct Terms {
     pub e: i32,
     pub k1: i32,
@@ -9,35 +9,35 @@ pub struct Terms {
 }
 
 // A mix code and a colour, of the foreground or the background.
-#[derive(Drop)]
+#[derive(Clone, Copy)]
 pub struct Ink {
     pub mix: u8,
     pub colour: u32,
 }
 
 // The compare condition and its value.
-#[derive(Drop)]
+#[derive(Clone, Copy)]
 pub struct Compare {
     pub condition: u8,
     pub value: u32,
 }
 
 // Two numbers of 12 bits: dimensions 1 and 2, the mask's origin, or a pointer into a map.
-#[derive(Drop)]
+#[derive(Clone, Copy)]
 pub struct Point {
     pub x: u16,
     pub y: u16,
 }
 
 // The destination pointer.
-#[derive(Drop)]
+#[derive(Clone, Copy)]
 pub struct Spot {
     pub x: i16,
     pub y: i16,
 }
 
 // What a pixel is worked from: mixes, colours, the comparison, the plane mask and the carry mask.
-#[derive(Drop)]
+#[derive(Clone, Copy)]
 pub struct Colours {
     pub foreground: Ink,
     pub background: Ink,
@@ -47,7 +47,7 @@ pub struct Colours {
 }
 
 // What is drawn: the pixel operations, the direction steps, the dimensions, and where the mask lies.
-#[derive(Drop)]
+#[derive(Clone, Copy)]
 pub struct Figure {
     pub operations: u32,
     pub steps: u32,
@@ -56,7 +56,7 @@ pub struct Figure {
 }
 
 // The pointers, which a drawing moves.
-#[derive(Drop)]
+#[derive(Clone, Copy)]
 pub struct Pointers {
     pub source: Point,
     pub pattern: Point,
@@ -64,7 +64,7 @@ pub struct Pointers {
 }
 
 // Every register but those of the maps.
-#[derive(Drop)]
+#[derive(Clone, Copy)]
 pub struct Registers {
     pub index: u8,
     pub terms: Terms,

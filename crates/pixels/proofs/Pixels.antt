@@ -4,7 +4,7 @@ use mathlib.Core.List.{List, ◌++◌}
 use mathlib.Core.Logic.{⊎_elim}
 use Prim.Native.Nat.{ℕ, ◌+◌, ◌%◌, ◌^◌, ◌≤◌, ◌<◌}
 use lib.ListN.{length, get_or, length-set, get_or-append, get_or-eq_default}
-use lib.Seq.{set-append_left, set_out, set-get_or, get_or-set_same, get_or_set_other}
+use lib.Seq.{set-append_left, set_out, set-get_or, get_or-set_same, get_or-set_other}
 use Rattle.numbers.specs.Fields.{field, with_field}
 use Rattle.numbers.proofs.Fields.{field_lt, field_zero, field_with_same, field_with_other, with_field_lt, with_field_self}
 use Rattle.numbers.proofs.Order.{lt_or_le, eq_or_ne}
@@ -64,7 +64,7 @@ module _ (memory : List ℕ) (map : Map) (x y v : ℕ) where
   -- every other byte stays
   pub byte_put_other : (j : ℕ) → (j ≡ place_of map x y → ⊥) → get_or (with_pixel memory map x y v) j 0 ≡ get_or memory j 0
   unfolding with_pixel
-  byte_put_other j ne = get_or_set_other memory (place_of map x y) j _ 0 ne
+  byte_put_other j ne = get_or-set_other memory (place_of map x y) j _ 0 ne
 
   -- so does every pixel, of any map, that lies in another byte
   pub get_put_elsewhere : (map' : Map) (x' y' : ℕ) → (place_of map' x' y' ≡ place_of map x y → ⊥)

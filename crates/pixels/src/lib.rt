@@ -1,4 +1,5 @@
 // A pixel of 1, 2, 4 or 8 bits in lent bytes.
+#![tactic(auto)]
 
 ghost use Rattle.std.specs.Prelude.{◌≡◌, ◌+◌, ◌*◌, ◌-◌, ◌^◌, ◌≤◌, ◌<◌, length, set};
 ghost use Rattle.numbers.specs.Choose.{choose};
@@ -8,7 +9,7 @@ ghost use Rattle.pixels.specs.Pixels.{pixel_at, with_pixel};
 ghost use Rattle.pixels.specs.Inner.{place_at, shift_at, cell_at};
 
 // A pixel map: where it starts, one less than its width and height in pixels, and its format code.
-#[derive(Drop)]
+#[derive(Clone, Copy)]
 pub struct Map {
     pub base: u32,
     pub width: u16,
@@ -17,7 +18,7 @@ pub struct Map {
 }
 
 // A pixel's bits in its byte: the byte's index, what it holds, and how far up and how many the bits are.
-#[derive(Drop)]
+#[derive(Clone, Copy)]
 pub struct Cell {
     pub at: usize,
     pub byte: u8,
@@ -49,7 +50,7 @@ pub fn index(map: Map, x: u16, y: u16) -> u32
 }
 
 // The index of the byte in which pixel number n of a map from `base` on lies.
-pub fn place_at_lem(format: u8, base: u32, n: u32) -> usize
+pub fn place_at(format: u8, base: u32, n: u32) -> usize
     ensures { result ≡ place_at format base n }
 {
     (base as usize) + ((n >> (3 - format % 4)) as usize)
@@ -59,7 +60,7 @@ pub fn place_at_lem(format: u8, base: u32, n: u32) -> usize
 pub fn place(map: Map, x: u16, y: u16) -> usize
     ensures { result ≡ place_of map x y }
 {
-    place_at_lem(map.format, map.base, index(map, x, y))
+    place_at(map.format, map.base, index(map, x, y))
 }
 
 // What turns over the number of a pixel within its byte: all bits in Motorola order, and none in Intel order.

@@ -5,7 +5,7 @@ use crate::{Brush, Flow, Mask};
 use mixes::depth_of;
 use parts::shapes::{Colours, Figure};
 use pixels::{Map, bits_of};
-use rules::maps::map_at_lem;
+use rules::maps::map_at;
 use rules::operations::{
     background_source, destination_field, foreground_source, is_fill, mask_mode, mode_of,
     pattern_field,
@@ -37,7 +37,7 @@ pub fn brush_of(figure: Figure, maps: [Map; 4], colours: Colours) -> Brush
 {
     let operations = figure.operations;
     let origin = figure.origin;
-    let destination = map_at_lem(maps, destination_field(operations));
+    let destination = map_at(maps, destination_field(operations));
     let mode = mask_mode(operations) as u8;
     let map = maps[0];
     let mask = Mask { mode, map, origin };

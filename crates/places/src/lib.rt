@@ -1,4 +1,6 @@
 // Where a position lies, and what its drawing mode holds back; and what a position needs beside its moves.
+#![tactic(auto)]
+
 use mixes::Depth;
 use moves::Travel;
 use parts::shapes::{Colours, Point};
@@ -9,7 +11,7 @@ pub mod modes;
 pub mod places;
 
 // The mask: its mode, its map, and where its map begins on the destination.
-#[derive(Drop)]
+#[derive(Clone, Copy)]
 pub struct Mask {
     pub mode: u8,
     pub map: Map,
@@ -18,7 +20,7 @@ pub struct Mask {
 
 // Where a drawing's pixels come from: whether the pattern is made from the source, which of foreground and background take
 // the source pixel, whether an area is filled, and the drawing mode.
-#[derive(Drop)]
+#[derive(Clone, Copy)]
 pub struct Flow {
     pub derived: bool,
     pub foreground: bool,
@@ -28,7 +30,7 @@ pub struct Flow {
 }
 
 // What a position needs beside its moves, which a drawing does not change; `edge` is the lowest X that its destination counts as.
-#[derive(Drop)]
+#[derive(Clone, Copy)]
 pub struct Brush {
     pub destination: Map,
     pub mask: Mask,
@@ -39,7 +41,7 @@ pub struct Brush {
 }
 
 // What a drawing does not change, decoded once.
-#[derive(Drop)]
+#[derive(Clone, Copy)]
 pub struct Setup {
     pub travel: Travel,
     pub brush: Brush,

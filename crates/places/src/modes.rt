@@ -8,7 +8,7 @@ ghost use Rattle.places.specs.Places.{of_run, on_boundary, nulled_by};
 ghost use Rattle.places.specs.Inner.{code_in, are_codes, moves_by};
 
 use crate::Setup;
-use moves::steps::{code_step_lem, line_step_lem, moves_row};
+use moves::steps::{code_step, line_step, moves_row};
 use moves::{Travel, Turn};
 use parts::drawing::Drawing;
 use rules::codes::{code_at, only_moves, steps_of};
@@ -29,7 +29,7 @@ fn line_bounds(travel: Travel, e: i32, rose: bool, done: u16) -> bool
     ensures { result ≡ on_boundary travel e (Line rose done) }
 {
     let course = travel.course;
-    let step = line_step_lem(course, e);
+    let step = line_step(course, e);
     let down = step.y;
     let way = course.y;
     of_run(
@@ -56,7 +56,7 @@ fn line_nulled(setup: Setup, e: i32, rose: bool, done: u16) -> bool
 fn code_bounds(code: u8, done: u16, last: bool) -> bool
     ensures { result ≡ of_run (code_step code).y (not (eqb done 0)) (not last) }
 {
-    let step = code_step_lem(code);
+    let step = code_step(code);
     let down = step.y;
     of_run(down, done != 0, !last)
 }

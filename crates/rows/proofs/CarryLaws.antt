@@ -1,5 +1,5 @@
 -- Bytes made one after another: their number stays, bytes stay bytes, and where none is read but itself the order does not matter.
-use Rattle.std.proofs.Common.{◌≡◌, ℕ, zero, suc, ◌+◌, ◌-◌, ◌^◌, ◌<◌, ◌≤◌, Bool, true, false, List, length, get_or, set, sym, refl, ap, ◌∙◌, ⊎_elim, mod-eq_of_lt, add-one, arith, length-set, get_or_set_other, get_or-set_same}
+use Rattle.std.proofs.Common.{◌≡◌, ℕ, zero, suc, ◌+◌, ◌-◌, ◌^◌, ◌<◌, ◌≤◌, Bool, true, false, List, length, get_or, set, sym, refl, ap, ◌∙◌, ⊎_elim, mod-eq_of_lt, add-one, arith, length-set, get_or-set_other, get_or-set_same}
 use lib.Bits.{bit_and, bit_xor, xor_lt, and_lt, and_mask, and_comm, and_zero_l, and_zero_r, xor_zero_l, xor_zero_r, xor_comm}
 use lib.Seq.{set_comm, set_out}
 use Rattle.numbers.specs.Choose.{choose}
@@ -35,7 +35,7 @@ set_bytes m i v bytes small j =
     ⊎_elim
     (λ (same : j ≡ i).
     ⊎_elim (λ (held : i < length m). rw (same, get_or-set_same m i v 0 held) small) (λ out. rw (set_out m i v out) (bytes j)) (lt_or_le i (length m)))
-    (λ ne. rw (get_or_set_other m i j v 0 ne) (bytes j)) (eq_or_ne j i)
+    (λ ne. rw (get_or-set_other m i j v 0 ne) (bytes j)) (eq_or_ne j i)
 
 pub carried_bytes : (op : ℕ → ℕ → ℕ) → ((s d : ℕ) → s < 256 → d < 256 → op s d < 256) → (back : Bool) (from to n : ℕ) (m : List ℕ) → Bytes m
     → Bytes (carried op back from to n m)
@@ -58,7 +58,7 @@ pub changed_other : (f : ℕ → ℕ → ℕ) (at n j : ℕ) (m : List ℕ) → 
 unfolding changed
 changed_other f at zero j m apart = refl
 changed_other f at (suc n) j m apart =
-    get_or_set_other (changed f at n m) (at + n) j _ 0 (apart n (omega arith)) ∙ changed_other f at n j m (λ i h. apart i (omega arith))
+    get_or-set_other (changed f at n m) (at + n) j _ 0 (apart n (omega arith)) ∙ changed_other f at n j m (λ i h. apart i (omega arith))
 
 -- operations that make the same of bytes
 pub carried_same : (op op' : ℕ → ℕ → ℕ) → ((s d : ℕ) → s < 256 → d < 256 → op' s d < 256)
@@ -83,7 +83,7 @@ changed_before f at (suc n) i v m h =
     let before = changed_before f at n i v m h in
     let ne : (at + n ≡ i → ⊥) = λ e. omega arith in
     (λ j. set (before j) (at + n) (f n (get_or (before j) (at + n) 0)))
-    ∙ ap (λ (x : ℕ). set (set (changed f at n m) i v) (at + n) (f n x)) (get_or_set_other (changed f at n m) i (at + n) v 0 ne)
+    ∙ ap (λ (x : ℕ). set (set (changed f at n m) i v) (at + n) (f n x)) (get_or-set_other (changed f at n m) i (at + n) v 0 ne)
     ∙ sym (set_comm (changed f at n m) (at + n) i _ v ne)
 
 -- one byte before the others

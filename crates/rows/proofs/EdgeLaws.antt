@@ -1,5 +1,5 @@
 -- The pixels of a lane that lie in one byte, one after another, are one field of it: each takes a field that no other changes.
-use Rattle.std.proofs.Common.{◌≡◌, ℕ, zero, suc, ◌+◌, ◌*◌, ◌/◌, ◌<◌, ◌≤◌, Bool, List, length, get_or, set, sym, ap, ◌∙◌, ⊎_elim, arith, get_or_set_other, get_or-set_same, set-set}
+use Rattle.std.proofs.Common.{◌≡◌, ℕ, zero, suc, ◌+◌, ◌*◌, ◌/◌, ◌<◌, ◌≤◌, Bool, List, length, get_or, set, sym, ap, ◌∙◌, ⊎_elim, arith, get_or-set_other, get_or-set_same, set-set}
 use lib.Seq.{set-get_or}
 use Rattle.numbers.specs.Fields.{field, with_field}
 use Rattle.numbers.proofs.Order.{eq_or_ne}
@@ -93,7 +93,7 @@ module _ (op whole : ℕ → ℕ → ℕ) (l : Lane) (alike : Alike l.format op 
       ap (λ (q : ℕ). field sh n (get_or now q 0)) same
       ∙ as_it_was op whole l alike m bytes g k S to few held i less
       ∙ ap (λ (q : ℕ). field sh n (get_or m q 0)) (sym same))
-      (λ ne. ap (field sh n) (get_or_set_other m J J' _ 0 ne)) (eq_or_ne J' J)
+      (λ ne. ap (field sh n) (get_or-set_other m J J' _ 0 ne)) (eq_or_ne J' J)
 
   pub swept_edge : let n = bits_of l.format in
       let J = place_at l.format l.destination l.to in

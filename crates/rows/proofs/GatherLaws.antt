@@ -1,5 +1,5 @@
 -- The pixels of one byte, taken from elsewhere in theirs: each is a field of the byte that is gathered for it, so all of them are made at once.
-use Rattle.std.proofs.Common.{◌≡◌, ℕ, ◌+◌, ◌-◌, ◌*◌, ◌/◌, ◌%◌, ◌^◌, ◌<◌, ◌≤◌, Bool, true, false, not, ◌⊎◌, List, length, get_or, set, sym, refl, ap, ◌∙◌, inl, inr, ⊎_elim, mul-le-mul_right, add-mul, zero-mul, arith, get_or_set_other}
+use Rattle.std.proofs.Common.{◌≡◌, ℕ, ◌+◌, ◌-◌, ◌*◌, ◌/◌, ◌%◌, ◌^◌, ◌<◌, ◌≤◌, Bool, true, false, not, ◌⊎◌, List, length, get_or, set, sym, refl, ap, ◌∙◌, inl, inr, ⊎_elim, mul-le-mul_right, add-mul, zero-mul, arith, get_or-set_other}
 use Rattle.numbers.specs.Choose.{choose}
 use Rattle.numbers.specs.Fields.{field, with_field}
 use Rattle.numbers.proofs.Order.{lt_or_le}
@@ -156,6 +156,6 @@ module _ (l : Lane) (size k g down : ℕ) (h : Apart l k size) (turned : Turned 
       (λ i less.
       let place = place_in op whole l alike m bytes g k S passed few held i less in
       ap (field (shift_at l.format (along l.back l.from i)) (bits_of l.format))
-      (get_or_set_other m _ _ _ 0 (λ e. h.apart i i less less (e ∙ sym place)))
+      (get_or-set_other m _ _ _ 0 (λ e. h.apart i i less less (e ∙ sym place)))
       ∙ sym (gathered_field i less)
       ∙ ap (λ (s : ℕ). field s (bits_of l.format) S) (shift_in op whole l alike m bytes g k S passed few held i less))

@@ -1,5 +1,5 @@
 -- Bytes joined of two, one after another: what they are made of stays, so the order does not matter, and a field of one is a field of either.
-use Rattle.std.proofs.Common.{◌≡◌, ℕ, zero, suc, ◌+◌, ◌-◌, ◌*◌, ◌/◌, ◌%◌, ◌^◌, ◌<◌, ◌≤◌, Bool, true, false, List, length, get_or, set, sym, refl, ap, ◌∙◌, add-zero, mod-lt, add-one, arith, length-set, get_or_set_other, pow_pos, shr_lt}
+use Rattle.std.proofs.Common.{◌≡◌, ℕ, zero, suc, ◌+◌, ◌-◌, ◌*◌, ◌/◌, ◌%◌, ◌^◌, ◌<◌, ◌≤◌, Bool, true, false, List, length, get_or, set, sym, refl, ap, ◌∙◌, add-zero, mod-lt, add-one, arith, length-set, get_or-set_other, pow_pos, shr_lt}
 use lib.Bits.{bit_or, or_lt, or_shifted_r}
 use lib.Pow as pow
 use lib.Pow.{shl-shr, shr_le, mod-pow-add}
@@ -98,12 +98,12 @@ module _ (op : ℕ → ℕ → ℕ) (down : ℕ) where
       let v : ℕ = op (joined down (get_or m a 0) (get_or m b 0)) (get_or m t 0) in
       (λ i.
       set (set m t' v') t
-      (op (joined down (get_or_set_other m t' a v' 0 na i) (get_or_set_other m t' b v' 0 nb i)) (get_or_set_other m t' t v' 0 ne i)))
+      (op (joined down (get_or-set_other m t' a v' 0 na i) (get_or-set_other m t' b v' 0 nb i)) (get_or-set_other m t' t v' 0 ne i)))
       ∙ set_comm m t' t v' v (λ e. ne (sym e))
       ∙ sym
       (λ i.
       set (set m t v) t'
-      (op (joined down (get_or_set_other m t a' v 0 na' i) (get_or_set_other m t b' v 0 nb' i)) (get_or_set_other m t t' v 0 (λ e. ne (sym e)) i)))
+      (op (joined down (get_or-set_other m t a' v 0 na' i) (get_or-set_other m t b' v 0 nb' i)) (get_or-set_other m t t' v 0 (λ e. ne (sym e)) i)))
 
   -- one byte before the others
   slid_first : (low high to n : ℕ) (m : List ℕ)

@@ -1,4 +1,6 @@
 // A row of pixels drawn as whole bytes.
+#![tactic(auto)]
+
 mod bytes;
 pub mod patterns;
 pub mod ranges;
@@ -8,7 +10,7 @@ pub mod traces;
 pub mod wholes;
 
 // A blend of every pixel in a byte at once: what `Blend` is to one pixel.
-#[derive(Drop)]
+#[derive(Clone, Copy)]
 pub struct Whole {
     pub always: u8,
     pub source: u8,
@@ -18,7 +20,7 @@ pub struct Whole {
 
 // Pixels of one format, one after another, back or forth: from the pixel number `from` of a map that begins at `source`, to the
 // pixel number `to` of one that begins at `destination`.
-#[derive(Drop)]
+#[derive(Clone, Copy)]
 pub struct Lane {
     pub format: u8,
     pub back: bool,
@@ -30,7 +32,7 @@ pub struct Lane {
 
 // Single pixels of a map that begins at `base`, from pixel number `at` on: each step adds `straight` to the number and K1 to the error
 // term where that is below 0, and otherwise `turned` and K2. The term is 8,192 higher than it stands for, and kept below 16,384.
-#[derive(Drop)]
+#[derive(Clone, Copy)]
 pub struct Trail {
     pub format: u8,
     pub base: u32,
@@ -43,7 +45,7 @@ pub struct Trail {
 }
 
 // How far a trail was gone: the number of the pixel there, the error term, and the pixels made.
-#[derive(Drop)]
+#[derive(Clone, Copy)]
 pub struct Traced {
     pub at: u32,
     pub e: u32,

@@ -10,7 +10,7 @@ use crate::bytes::lowest;
 use crate::{Lane, Whole};
 
 // What two blends turn always, and what they keep of a byte; and what turns over a pixel's number within a byte of the pattern.
-#[derive(Drop)]
+#[derive(Clone, Copy)]
 struct Inks {
     front_always: u8,
     front_keeps: u8,

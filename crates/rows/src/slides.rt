@@ -9,7 +9,7 @@ use crate::bytes::lowest;
 use crate::sweeps::{bytes_in, edge_from, gone, is_from_top, lead, mend, onward, pixels_in, step};
 use crate::wholes::blend_bytes;
 use crate::{Lane, Whole};
-use pixels::{bits_of, place_at_lem, shift_at};
+use pixels::{bits_of, place_at, shift_at};
 
 // The byte of the upper bits of one, and above them the lowest of another.
 fn join(low: u8, high: u8, down: u32) -> u8
@@ -46,7 +46,7 @@ pub(crate) fn source_end(lane: Lane, last: bool, count: u32) -> usize
     ensures { result ≡ source_end lane last count }
 {
     let i: u32 = if last { count - 1 } else { 0 };
-    place_at_lem(lane.format, lane.source, step(lane.back, lane.from, i))
+    place_at(lane.format, lane.source, step(lane.back, lane.from, i))
 }
 
 // The first pixels of a lane, which lie in one byte behind those that are passed.
@@ -68,7 +68,7 @@ fn slide_edge(memory: &mut [u8], lane: Lane, whole: Whole, down: u32, passed: u3
         memory,
         whole,
         s,
-        place_at_lem(lane.format, lane.destination, lane.to),
+        place_at(lane.format, lane.destination, lane.to),
         edge_from(lane.back, lane.format, passed, count),
         count * bits_of(lane.format),
     );
@@ -89,7 +89,7 @@ fn slide_whole(memory: &mut [u8], lane: Lane, whole: Whole, down: u32, bytes: u3
     let per = pixels_in(lane.format, 1);
     let low = source_end(lane, top, per);
     let high = source_end(lane, !top, per);
-    let to = place_at_lem(lane.format, lane.destination, lane.to);
+    let to = place_at(lane.format, lane.destination, lane.to);
     let count = bytes as usize;
     slide_forth(
         memory,

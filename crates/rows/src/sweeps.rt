@@ -9,7 +9,7 @@ ghost use Rattle.rows.specs.Inner.{wholly, Alike, along, Reach, swept, Lies, gon
 use crate::bytes::carry;
 use crate::wholes::blend_bytes;
 use crate::{Lane, Whole};
-use pixels::{bits_of, place_at_lem};
+use pixels::{bits_of, place_at};
 
 // The i-th number from n on, back or forth.
 pub(crate) fn step(back: bool, n: u32, i: u32) -> u32
@@ -84,8 +84,8 @@ fn edge(memory: &mut [u8], lane: Lane, whole: Whole, passed: u32, count: u32)
     touch(
         memory,
         whole,
-        place_at_lem(lane.format, lane.source, lane.from),
-        place_at_lem(lane.format, lane.destination, lane.to),
+        place_at(lane.format, lane.source, lane.from),
+        place_at(lane.format, lane.destination, lane.to),
         edge_from(lane.back, lane.format, passed, count),
         count * bits,
     );
@@ -157,8 +157,8 @@ fn sweep_bytes(memory: &mut [u8], lane: Lane, whole: Whole, count: u32)
         memory,
         whole,
         lane.back,
-        place_at_lem(lane.format, lane.source, lane.from),
-        place_at_lem(lane.format, lane.destination, lane.to),
+        place_at(lane.format, lane.source, lane.from),
+        place_at(lane.format, lane.destination, lane.to),
         bytes as usize,
     );
     let done = pixels_in(lane.format, bytes);

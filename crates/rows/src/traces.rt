@@ -9,7 +9,7 @@ ghost use Rattle.rows.specs.Inner.{Termed, error_at, number_at, turns_at, traced
 
 use crate::sweeps::mend;
 use crate::{Traced, Trail, Whole};
-use pixels::{bits_of, place_at_lem, shift_at};
+use pixels::{bits_of, place_at, shift_at};
 use std::num::wrapping_add_u32;
 
 // The byte that a blend makes of one where it takes nothing from a source.
@@ -37,7 +37,7 @@ fn part(memory: &mut [u8], format: u8, base: u32, whole: Whole, n: u32)
         memory,
         whole,
         0,
-        place_at_lem(format, base, n),
+        place_at(format, base, n),
         shift_at(format, n),
         bits_of(format),
     );

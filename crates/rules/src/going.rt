@@ -3,7 +3,7 @@ ghost use Rattle.parts.specs.declared.drawing.Drawing.TheVariants.{Codes};
 ghost use Rattle.rules.specs.Going.{counters_hold, pointers_hold};
 
 use crate::codes::{code_at, is_count, none_stopped, steps_of, stops};
-use crate::maps::{is_inside, map_at_lem};
+use crate::maps::{is_inside, map_at};
 use crate::operations::{
     is_block, is_codes, is_fill, is_line, mode_of, pattern_field, source_field, uses_pattern,
     uses_source,
@@ -55,6 +55,7 @@ pub fn pointers_hold(operations: u32, maps: [Map; 4], pointers: Pointers) -> boo
 {
     let source = pointers.source;
     let pattern = pointers.pattern;
-    (!uses_source(operations) | is_inside(map_at_lem(maps, source_field(operations)), source))
-        & (!uses_pattern(operations) | is_inside(map_at_lem(maps, pattern_field(operations)), pattern))
+    (!uses_source(operations) | is_inside(map_at(maps, source_field(operations)), source))
+        & (!uses_pattern(operations)
+            | is_inside(map_at(maps, pattern_field(operations)), pattern))
 }

@@ -5,7 +5,7 @@ use parts::shapes::Point;
 use pixels::Map;
 
 // The map that a field of the pixel operations names: 0 for M, 1 for A, 2 for B, 3 for C.
-pub fn map_at_lem(maps: [Map; 4], field: u32) -> Map
+pub fn map_at(maps: [Map; 4], field: u32) -> Map
     ensures { result ≡ map_at maps field }
 {
     let i = (field % 4) as usize;

@@ -4,7 +4,7 @@ ghost use Rattle.rules.specs.Operations.{source_field, destination_field, source
 ghost use Rattle.rules.specs.Maps.{map_at, format_holds};
 ghost use Rattle.rules.specs.Rules.{is_source, is_pattern, fill_holds, fields_hold, mixes_hold, used_maps, formats_hold, ends_hold, start_refusal};
 
-use crate::maps::{end_holds, format_holds, is_one_bit, map_at_lem};
+use crate::maps::{end_holds, format_holds, is_one_bit, map_at};
 use crate::operations::{
     background_source, destination_field, foreground_source, is_fill, is_map, mask_mode, octant_of,
     pattern_field, source_field, source_is_colour, uses_mask, uses_pattern, uses_source,
@@ -58,10 +58,10 @@ fn mixes_hold(colours: Colours) -> bool
 fn used_formats_hold(operations: u32, maps: [Map; 4]) -> bool
     ensures { result ≡ used_maps format_holds operations maps }
 {
-    format_holds(map_at_lem(maps, destination_field(operations)))
-        & (!uses_source(operations) | format_holds(map_at_lem(maps, source_field(operations))))
-        & (!uses_pattern(operations) | format_holds(map_at_lem(maps, pattern_field(operations))))
-        & (!uses_mask(operations) | format_holds(map_at_lem(maps, 0)))
+    format_holds(map_at(maps, destination_field(operations)))
+        & (!uses_source(operations) | format_holds(map_at(maps, source_field(operations))))
+        & (!uses_pattern(operations) | format_holds(map_at(maps, pattern_field(operations))))
+        & (!uses_mask(operations) | format_holds(map_at(maps, 0)))
 }
 
 // Whether a source used for a colour has the destination's pixel size.
@@ -69,8 +69,8 @@ fn sizes_agree(operations: u32, maps: [Map; 4]) -> bool
     ensures { result ≡ (not (source_is_colour operations)
         || eqb (bits_of (map_at maps (source_field operations)).format) (bits_of (map_at maps (destination_field operations)).format)) }
 {
-    let source = map_at_lem(maps, source_field(operations));
-    let destination = map_at_lem(maps, destination_field(operations));
+    let source = map_at(maps, source_field(operations));
+    let destination = map_at(maps, destination_field(operations));
     !source_is_colour(operations)
         | (pixels::bits_of(source.format) == pixels::bits_of(destination.format))
 }
@@ -81,18 +81,18 @@ fn formats_hold(operations: u32, maps: [Map; 4]) -> bool
 {
     used_formats_hold(operations, maps)
         & sizes_agree(operations, maps)
-        & (!uses_pattern(operations) | is_one_bit(map_at_lem(maps, pattern_field(operations))))
-        & (!uses_mask(operations) | is_one_bit(map_at_lem(maps, 0)))
+        & (!uses_pattern(operations) | is_one_bit(map_at(maps, pattern_field(operations))))
+        & (!uses_mask(operations) | is_one_bit(map_at(maps, 0)))
 }
 
 // Whether refusal 8 does not apply.
 fn ends_hold(operations: u32, maps: [Map; 4], size: u32) -> bool
     ensures { result ≡ ends_hold operations maps size }
 {
-    end_holds(size, map_at_lem(maps, destination_field(operations)))
-        & (!uses_source(operations) | end_holds(size, map_at_lem(maps, source_field(operations))))
-        & (!uses_pattern(operations) | end_holds(size, map_at_lem(maps, pattern_field(operations))))
-        & (!uses_mask(operations) | end_holds(size, map_at_lem(maps, 0)))
+    end_holds(size, map_at(maps, destination_field(operations)))
+        & (!uses_source(operations) | end_holds(size, map_at(maps, source_field(operations))))
+        & (!uses_pattern(operations) | end_holds(size, map_at(maps, pattern_field(operations))))
+        & (!uses_mask(operations) | end_holds(size, map_at(maps, 0)))
 }
 
 // The lowest of refusals 5 to 8 that applies to a start on these registers.

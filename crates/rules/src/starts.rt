@@ -3,7 +3,7 @@ ghost use Rattle.numbers.specs.Choose.{choose};
 ghost use Rattle.rules.specs.Starts as defined;
 
 use crate::codes::{code_at, stops};
-use crate::maps::map_at_lem;
+use crate::maps::map_at;
 use crate::operations::{
     is_block, is_line, pattern_field, source_field, uses_pattern, uses_source,
 };
@@ -30,8 +30,8 @@ fn turned(used: bool, map: Map, p: Point) -> Point
 pub fn start_pointers(operations: u32, maps: [Map; 4], pointers: Pointers) -> Pointers
     ensures { result ≡ defined.pointers_started operations maps pointers }
 {
-    let source_map = map_at_lem(maps, source_field(operations));
-    let pattern_map = map_at_lem(maps, pattern_field(operations));
+    let source_map = map_at(maps, source_field(operations));
+    let pattern_map = map_at(maps, pattern_field(operations));
     let source = pointers.source;
     let pattern = pointers.pattern;
     let destination = pointers.destination;

@@ -1,4 +1,6 @@
 // A run of positions over lent memory.
+#![tactic(auto)]
+
 ghost use Rattle.std.specs.Prelude.{◌≡◌, true, length};
 ghost use Rattle.parts.specs.Drawings.{unfinished};
 ghost use Rattle.position.specs.Inner.{Safe};
@@ -19,7 +21,7 @@ mod strokes;
 mod turns;
 
 // What a run leaves beside memory: the pen, and the positions done.
-#[derive(Drop)]
+#[derive(Clone, Copy)]
 pub struct Ran {
     pub pen: Pen,
     pub done: u32,

@@ -14,7 +14,7 @@ use rows::Whole;
 use rows::wholes::whole_of;
 
 // What the pixels of a row are made of beside themselves: of nothing, of the source's pixels, or of the pattern's.
-#[derive(Drop)]
+#[derive(Clone, Copy)]
 pub enum Taken {
     Own,
     Source,
@@ -23,7 +23,7 @@ pub enum Taken {
 
 // How a drawing is drawn: whether as rows or as strokes, what its rows take and of which map, whether they go back, the first and the
 // last column and row that may be painted, and the blends of whole bytes, of the foreground and of the background.
-#[derive(Drop)]
+#[derive(Clone, Copy)]
 pub struct Plan {
     pub rows: bool,
     pub strokes: bool,

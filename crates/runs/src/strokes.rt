@@ -14,7 +14,7 @@ ghost use Rattle.runs.specs.Inner.{is_stroke, goes_across, Sized, raised, error_
 use crate::Ran;
 use crate::plans::{Plan, goes_across, goes_back, least};
 use crate::stretches::{number, span};
-use moves::steps::code_step_lem;
+use moves::steps::code_step;
 use moves::ways::pass_code;
 use moves::{Pen, Step, Travel, Turn};
 use numbers::circles::{destination, word};
@@ -31,7 +31,7 @@ use std::num::wrapping_add_u32;
 
 // What is left of a line or code: whether it is drawn, its straight and its turned step, the error term and what it gains by each, as
 // a trail has them, and the steps before its last position.
-#[derive(Drop)]
+#[derive(Clone, Copy)]
 pub struct Stroke {
     pub drawn: bool,
     pub straight: Step,
@@ -99,7 +99,7 @@ fn line_stroke(travel: Travel, e: i32, done: u16) -> Stroke
 fn code_stroke(code: u8, done: u16) -> Stroke
     ensures { (result ≡ code_stroke code done) × (done + result.steps < 2 ^ 16) }
 {
-    let step = code_step_lem(code);
+    let step = code_step(code);
     Stroke {
         drawn: !only_moves(code),
         straight: step,

@@ -1,4 +1,4 @@
--- `goes_on_lem` is the rule of a drawing in hand: an idle record passes, any other by its counters, the start rules and its pointers.
+-- `goes_on` is the rule of a drawing in hand: an idle record passes, any other by its counters, the start rules and its pointers.
 use mathlib.Core.Path.{sym, ◌∙◌}
 use borrow.Author.Tests.{not-true, not-false}
 use Rattle.coprocessor.specs.Valid.{goes_on}

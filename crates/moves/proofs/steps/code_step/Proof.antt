@@ -1,4 +1,4 @@
--- `code_step_lem` is the definition's step: its two turns are those of the direction, which eight cases show once.
+-- `code_step` is the definition's step: its two turns are those of the direction, which eight cases show once.
 use mathlib.Core.Path.{sym}
 use native.Mathlib.Omega.{arith}
 use borrow.Author.Rules.{rules}

@@ -1,4 +1,4 @@
--- `line_step_lem` is the definition's choice, by the sign of E.
+-- `line_step` is the definition's choice, by the sign of E.
 use mir.Syntax.{w32}
 use mir.ValLaws.{to_z-of_z}
 use Rattle.moves.specs.Steps.{line_step}

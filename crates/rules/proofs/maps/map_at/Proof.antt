@@ -1,4 +1,4 @@
--- `map_at_lem` reads the list at the field's remainder, which is within its four maps.
+-- `map_at` reads the list at the field's remainder, which is within its four maps.
 use mathlib.Core.Path.{refl}
 use borrow.Author.Rules.{rules}
 use Rattle.rules.specs.Maps.{map_at}

@@ -1,0 +1,18 @@
+-- `mixes::arithmetic::held_sum` meets its contract: the sum carries exactly where the number is above all enabled bits.
+use mathlib.Core.Path.{◌≡◌, ◌∙◌, ap}
+use Prim.Native.Nat.{ℕ, min}
+use lib.Bits.{bit_and}
+use borrow.Author.Rules.{rules}
+use Rattle.mixes.proofs.ArithmeticMixes.{held}
+use Rattle.mixes.proofs.arithmetic.held_sum.Goals as goal
+use Rattle.mixes.proofs.arithmetic.held_sum.Goals.{After-lesser}
+
+lesser-made : (c : After-lesser) → c.lesser.result ≡ min c.sum.result c.args.depth.ones
+lesser-made c = c.lesser.ensures
+
+pub returns : goal.returns
+returns c =
+    let sum = c in
+    let start = sum.before in
+    ap (λ (x : ℕ). bit_and x start.args.depth.planes) (lesser-made c.before)
+    ∙ held _ _ start.requires.planes start.requires.ones sum.sum.ensures.0
