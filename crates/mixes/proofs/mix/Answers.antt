@@ -18,7 +18,7 @@ low-lt c = rw c.requires.ones (mask_lt c.args.destination _)
 pub returns-then-code-lt16 : goal.returns-then-code-lt16
 returns-then-code-lt16 c =
     let test = c in
-    c.blend_pixels.ensures ∙ c.blend_of_lem.ensures test.requires test.if-code-lt16.true _ _
+    c.blend_pixels.ensures ∙ c.blend_of.ensures test.requires test.if-code-lt16.true _ _
 
 pub arithmetic-result-requires : goal.arithmetic-result-requires
 arithmetic-result-requires c = (c.requires, c.if-code-lt16.false)
@@ -26,14 +26,14 @@ arithmetic-result-requires c = (c.requires, c.if-code-lt16.false)
 pub merge-requires : goal.merge-requires
 merge-requires c =
     let start = c in
-    (start.requires, rw c.arithmetic-result.ensures (arithmetic_lt _ _ _ _ _), low-lt start)
+    (start.requires, rw c.arithmetic-result.ensures (arithmetic_lt _ _ _ _ _), low-lt c.before.before.before)
 
 pub returns : goal.returns
 returns c =
     let worked = c in
-    let start = worked.before.before in
+    let start = c in
     let depth = start.args.depth in
     c.merge.ensures
-    ∙ (λ i. merged depth.bits depth.planes (worked.arithmetic-result.ensures i) (low start i))
+    ∙ (λ i. merged depth.bits depth.planes (worked.arithmetic-result.ensures i) (low c.before.before.before.before i))
     ∙ merged_pixel _ _ _ _
     ∙ sym (mixed_arithmetic _ _ _ _ _ worked.if-code-lt16.false)

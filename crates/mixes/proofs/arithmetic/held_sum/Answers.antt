@@ -13,6 +13,6 @@ lesser-made c = c.lesser.ensures
 pub returns : goal.returns
 returns c =
     let sum = c in
-    let start = sum.before in
+    let start = c in
     ap (λ (x : ℕ). bit_and x start.args.depth.planes) (lesser-made c.before)
     ∙ held _ _ start.requires.planes start.requires.ones sum.sum.ensures.0

@@ -10,8 +10,8 @@ use Rattle.mixes.proofs.logical.blend_of.Goals as goal
 pub returns : goal.returns
 returns c = λ cut logical s d.
     let third = c in
-    let second = third.before in
-    let first = second.before in
+    let second = c in
+    let first = c in
     let depth = first.args.depth in
     let both = first.spread-both.ensures in
     let source = second.spread-source.ensures in
