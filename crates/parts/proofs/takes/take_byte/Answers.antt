@@ -1,0 +1,13 @@
+-- `take_byte` chooses as the definition does: its test is `touched`, and its byte is the latched one.
+use mathlib.Core.Path.{sym, ◌∙◌}
+use borrow.Author.Rules.{rules}
+use Rattle.parts.specs.Takes.{taken}
+use Rattle.parts.proofs.takes.take_byte.Goals as goal
+
+pub returns-then-touches : goal.returns-then-touches
+unfolding taken
+returns-then-touches c = simp (sym c.touches.ensures ∙ c.if-touches.true) c.latch1.ensures
+
+pub returns-else-touches : goal.returns-else-touches
+unfolding taken
+returns-else-touches c = simp (sym c.touches.ensures ∙ c.if-touches.false)
