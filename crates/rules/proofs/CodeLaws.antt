@@ -1,6 +1,6 @@
 -- Up to the first 00 every code counts, so the sum over the codes splits at any code before it.
 use mathlib.Core.Path.{◌≡◌, refl}
-use mathlib.Core.Bool.{true, false, and_false}
+use mathlib.Core.Bool.{true, false, and-false}
 use mathlib.Core.Logic.{⊎_elim}
 use Prim.Native.Nat.{ℕ, zero, suc, ◌+◌, ◌<◌}
 use native.Mathlib.Nat.{suc-add, add-suc, zero-add, le_of_suc-le-suc, eq-or-lt_of_le}
@@ -29,7 +29,7 @@ module _ (steps count : ℕ) where
   unfolding none_stopped
   code_stopping i zero h e = absurd (omega arith)
   code_stopping i (suc n) h e =
-      ⊎_elim (λ last. rw (← last, e, and_false)) (λ earlier. rw (code_stopping i n earlier e))
+      ⊎_elim (λ last. rw (← last, e, and-false)) (λ earlier. rw (code_stopping i n earlier e))
       (eq-or-lt_of_le (le_of_suc-le-suc h))
 
   -- ---- their positions
