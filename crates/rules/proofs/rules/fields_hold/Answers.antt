@@ -11,10 +11,10 @@ returns c =
     let pattern = c in
     let destination = c in
     let background = c in
-    let foreground = background.before.before in
+    let foreground = c in
     rw (c.fill_holds.ensures, c.is_fill.ensures)
     (rw (source.is_map-2.ensures, source.source_field.ensures, source.uses_source.ensures)
     (rw (mask.mask_mode.ensures, pattern.is_pattern.ensures, pattern.pattern_field.ensures)
     (rw (destination.is_map.ensures, destination.destination_field.ensures)
-    (rw (background.is_source-2.ensures, background.before.background-source.ensures)
-    (rw (foreground.is-source.ensures, foreground.before.foreground-source.ensures))))))
+    (rw (background.is_source-2.ensures, background.background_source.ensures)
+    (rw (foreground.is_source.ensures, foreground.foreground_source.ensures))))))
