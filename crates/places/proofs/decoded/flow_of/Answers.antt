@@ -1,0 +1,19 @@
+-- `flow_of` is the definition, field by field: each call gives its field, and the mode is below 4.
+use native.Mathlib.Omega.{arith}
+use Rattle.rules.proofs.ModeLaws.{mode_lt}
+use Rattle.places.specs.Decoded.{flow_of}
+use borrow.Author.Rules.{rules}
+use Rattle.places.proofs.decoded.flow_of.Goals as goal
+
+pub overflow_cast-result : goal.overflow_cast-result
+overflow_cast-result c = omega (arith, c.mode_of.ensures, mode_lt c.args.operations)
+
+pub returns : goal.returns
+unfolding flow_of
+returns c = rw (
+  c.mode_of.ensures,
+  c.is_fill.ensures,
+  c.background_source.ensures,
+  c.foreground_source.ensures,
+  c.pattern_field.ensures,
+)

@@ -1,0 +1,6 @@
+-- `code_bounds` is the definition, by the code's step.
+use borrow.Author.Rules.{rules}
+use Rattle.places.proofs.modes.code_bounds.Goals as goal
+
+pub returns : goal.returns
+returns c = rw (c.of_run.ensures, c.code_step-step.ensures)
