@@ -1,0 +1,86 @@
+-- `look` finds what is there, part by part: mask and destination lie in the memory where the position may be painted.
+-- whether it may be painted is as foreseen
+use mathlib.Core.Path.{◌≡◌, ◌∙◌, sym, ap}
+use mathlib.Core.Bool.{true, false≢true}
+use lib.ListN.{length}
+use borrow.Author.Tests.{not-true, not-false}
+use Rattle.pixels.specs.Pixels.{pixel_at}
+use Rattle.pixels.specs.Inner.{cell_at}
+use Rattle.pixels.proofs.Pixels.{cell_in_byte}
+use Rattle.places.specs.Places.{on_map, in_mask}
+use Rattle.position.specs.Fates.{destination_pixel}
+use Rattle.position.specs.Inner.{is_painted, foreseen_of}
+use Rattle.position.specs.Within.{Within}
+use Rattle.position.proofs.Writing.{open_inside}
+use borrow.Author.Rules.{rules}
+use Rattle.position.proofs.look.look.Goals as goal
+use Rattle.position.proofs.look.look.Goals.{After-blank, After-blank-then-is_on_zero, After-value, Else-is_on_zero, Else-not-is_painted}
+
+foreseen : (c : After-blank) → let a = c.args in c.is_painted.result ≡ is_painted (foreseen_of a.setup a.pen)
+foreseen c = c.is_painted.ensures ∙ ap is_painted c.foresee-foreseen.ensures
+
+foreseen-2 : (c : After-blank-then-is_on_zero) → let a = c.args in c.is_painted.result ≡ is_painted (foreseen_of a.setup a.pen)
+foreseen-2 c = c.is_painted.ensures ∙ ap is_painted c.foresee-foreseen.ensures
+
+foreseen-3 : (c : After-value) → let a = c.args in c.is_painted.result ≡ is_painted (foreseen_of a.setup a.pen)
+foreseen-3 c = c.is_painted.ensures ∙ ap is_painted c.foresee-foreseen.ensures
+
+foreseen-4 : (c : Else-is_on_zero) → let a = c.args in c.is_painted.result ≡ is_painted (foreseen_of a.setup a.pen)
+foreseen-4 c = c.is_painted.ensures ∙ ap is_painted c.foresee-foreseen.ensures
+
+foreseen-5 : (c : Else-not-is_painted) → let a = c.args in c.is_painted.result ≡ is_painted (foreseen_of a.setup a.pen)
+foreseen-5 c = c.is_painted.ensures ∙ ap is_painted c.foresee-foreseen.ensures
+
+-- a position that may be painted is inside its map and the mask boundary
+inside : (c : Else-is_on_zero) → let a = c.args in
+    Within a.setup (length a.memory.now) a.pen × (on_map a.setup.brush a.pen ≡ true) × (in_mask a.setup.brush a.pen ≡ true)
+inside c =
+    let start = c in
+    let on = open_inside start.args.setup start.args.memory.now start.args.pen (sym (foreseen-4 c) ∙ c.if-not-is_painted.false) in
+    (start.requires.1, on.0, on.1)
+
+inside-2 : (c : Else-not-is_painted) → let a = c.args in
+    Within a.setup (length a.memory.now) a.pen × (on_map a.setup.brush a.pen ≡ true) × (in_mask a.setup.brush a.pen ≡ true)
+inside-2 c =
+    let start = c in
+    let on = open_inside start.args.setup start.args.memory.now start.args.pen (sym (foreseen-5 c) ∙ c.if-not-is_painted.false) in
+    (start.requires.1, on.0, on.1)
+
+pub returns-then-not-is_painted : goal.returns-then-not-is_painted
+returns-then-not-is_painted c = let blank = c.blank.ensures in
+    let held = sym (c.if-not-is_painted.true) ∙ foreseen c in
+    record {
+      pattern = blank.0 ∙ c.pattern_read-pattern.ensures;
+      foreseen = blank.1 ∙ c.foresee-foreseen.ensures;
+      zero = λ free. absurd (false≢true (held ∙ free));
+      target = λ free off. absurd (false≢true (held ∙ free));
+    }
+
+pub is_on_zero-requires : goal.is_on_zero-requires
+is_on_zero-requires c = inside-2 c
+
+pub returns-then-is_on_zero : goal.returns-then-is_on_zero
+returns-then-is_on_zero c = let blank = c.blank-then-is_on_zero.ensures in
+    let zero = c.is_on_zero.ensures in
+    record {
+      pattern = blank.0 ∙ c.pattern_read-pattern.ensures;
+      foreseen = blank.1 ∙ c.foresee-foreseen.ensures;
+      zero = λ free. blank.2 ∙ sym c.if-is_on_zero.true ∙ zero;
+      target = λ free off. absurd (false≢true (sym off ∙ sym zero ∙ c.if-is_on_zero.true));
+    }
+
+pub destination_cell-cell-requires : goal.destination_cell-cell-requires
+destination_cell-cell-requires c = inside c
+
+pub value-requires : goal.value-requires
+value-requires c = rw c.destination_cell-cell.ensures (cell_in_byte _ _ _ _)
+
+pub returns : goal.returns
+unfolding cell_at pixel_at destination_pixel
+returns c = let cell = c.destination_cell-cell.ensures in
+    record {
+      pattern = c.pattern_read-pattern.ensures;
+      foreseen = c.foresee-foreseen.ensures;
+      zero = λ free. sym c.if-is_on_zero.false ∙ c.is_on_zero.ensures;
+      target = λ free off. record { cell = cell; pixel = rw (c.value.ensures, cell); source = c.source_read-source.ensures };
+    }
