@@ -1,5 +1,5 @@
 -- The pixels of a lane in parts: some, and then the others; and those that fill whole bytes are the bytes.
-use Rattle.std.proofs.Common.{◌≡◌, ℕ, zero, suc, ◌+◌, ◌-◌, ◌*◌, ◌/◌, ◌<◌, ◌≤◌, Bool, true, false, List, length, get_or, set, sym, refl, ap, ◌∙◌, add-zero, add-suc, suc-mul, add-mul, zero-mul, arith}
+use Rattle.std.proofs.Common.{◌≡◌, ℕ, zero, suc, ◌+◌, ◌*◌, ◌/◌, ◌<◌, ◌≤◌, Bool, true, false, List, length, get_or, set, sym, refl, ap, ◌∙◌, add-zero, add-suc, suc-mul, add-mul, zero-mul, arith}
 use Rattle.pixels.specs.Maps.{bits_of}
 use Rattle.pixels.proofs.Maps.{bits_le}
 use Rattle.pixels.specs.Inner.{place_at}

@@ -1,0 +1,11 @@
+-- `rows::bytes::copy_back` copies the bytes in order: after i turns memory is that of i bytes copied.
+use Rattle.std.proofs.Common.{◌≡◌, ◌-◌, ◌≤◌, true, length}
+use Rattle.rows.specs.Inner.{carried}
+use Rattle.rows.proofs.bytes.copy_back.Given as goal
+
+abbrev pub invariant-loop-i : goal.invariant-loop-i
+invariant-loop-i l =
+    (l.i ≤ l.count) × (length l.memory ≡ length l.initial.memory) × (l.memory ≡ carried (λ s d. s) true l.from l.to l.i l.initial.memory)
+
+abbrev pub decreases-loop-i : goal.decreases-loop-i
+decreases-loop-i l = l.count - l.i
