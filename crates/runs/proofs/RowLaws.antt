@@ -214,9 +214,9 @@ module _ (s : Setup) (p : Plan) (planned : Planned s p) (by_rows : p.rows ≡ tr
     -- the pixel that is taken
     taken_there : (t : Taken) → RowsBy s t → Spans back (taken_x s t pen) k 0 (taken_map s t).width → taken_x s t (at i) ≡ along back (taken_x s t pen) i
     unfolding columns_passed
-    taken_there Own h spans = column_there
-    taken_there Source h spans = pointer_there s.travel.source.used s.travel.source.map pen.pointers.source.x (source_used s size pen safe h.1) spans
-    taken_there Pattern h spans = pointer_there s.travel.pattern.used s.travel.pattern.map pen.pointers.pattern.x (inked_rows s h).used spans
+    taken_there Own h _ = column_there
+    taken_there Source h within = pointer_there s.travel.source.used s.travel.source.map pen.pointers.source.x (source_used s size pen safe h.1) within
+    taken_there Pattern h within = pointer_there s.travel.pattern.used s.travel.pattern.map pen.pointers.pattern.x (inked_rows s h).used within
 
     taken_row : (t : Taken) → taken_y s t (at i) ≡ taken_y s t pen
     unfolding columns_passed

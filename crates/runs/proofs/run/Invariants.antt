@@ -1,0 +1,21 @@
+-- `run` is that many positions: each turn adds those that it did, and a drawing in hand stays safe.
+use Rattle.std.proofs.Common.{◌≡◌, ◌+◌, ◌-◌, ◌<◌, ◌≤◌, true, ◌&&◌, ltb, length, sym, refl, ap, ◌∙◌, subst, zero-le, arith, rules, ltb-true}
+use Rattle.numbers.proofs.Choices.{and_left, and_right}
+use Rattle.parts.specs.Drawings.{unfinished}
+use Rattle.moves.specs.declared.Pen.{Pen}
+use Rattle.position.specs.Inner.{Safe}
+use Rattle.runs.specs.Runs.{Run, begun, after}
+use Rattle.runs.proofs.AfterLaws.{after_stop, parts}
+use Rattle.runs.proofs.RunLaws.{after_more, safe_after}
+use Rattle.runs.proofs.run.Given as goal
+
+abbrev pub invariant-loop-done : goal.invariant-loop-done
+invariant-loop-done l =
+    (l.done ≤ l.allowance)
+    × (length l.memory ≡ length l.initial.memory)
+    × (after l.setup l.done (begun l.initial.pen l.initial.memory) ≡ record { pen = l.pen; memory = l.memory; done = l.done })
+    × (l.going ≡ unfinished l.pen.drawing)
+    × (l.going ≡ true → Safe l.setup (length l.initial.memory) l.pen)
+
+abbrev pub decreases-loop-done : goal.decreases-loop-done
+decreases-loop-done l = l.allowance - l.done

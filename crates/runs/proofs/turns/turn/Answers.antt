@@ -1,0 +1,51 @@
+-- `turn` is some positions that are alike, or some one by one.
+use Rattle.std.proofs.Common.{◌≡◌, ℕ, List, sym, ap, ◌∙◌, arith, rules}
+use Rattle.runs.specs.Runs.{Run, begun, after}
+use Rattle.runs.proofs.RunLaws.{reached, after_done, done_some}
+use Rattle.runs.proofs.turns.turn.Goals as goal
+use Rattle.runs.proofs.turns.turn.Goals.{After-slice_known-3-1, Then-ran-gt0}
+
+pub draw_alike-ran-requires : goal.draw_alike-ran-requires
+draw_alike-ran-requires c = (c.requires.0, c.requires.3)
+
+-- what the positions that are alike leave
+alike : (c : After-slice_known-3-1) → let a = c.args in let r = c.draw_alike-ran.result in
+    after a.setup r.done (begun a.pen a.memory.now) ≡ record { pen = r.pen; memory = c.draw_alike-ran.new.memory; done = r.done }
+alike c = let h = c.requires in c.draw_alike-ran.ensures.1 c.args.blends h.2 h.1
+
+alike-2 : (c : Then-ran-gt0) → let a = c.args in let r = c.draw_alike-ran.result in
+    after a.setup r.done (begun a.pen a.memory.now) ≡ record { pen = r.pen; memory = c.draw_alike-ran.new.memory; done = r.done }
+alike-2 c = let h = c.requires in c.draw_alike-ran.ensures.1 c.args.blends h.2 h.1
+
+pub returns-then-ran-gt0 : goal.returns-then-ran-gt0
+returns-then-ran-gt0 c = (c.if-ran-gt0.true, c.draw_alike-ran.ensures.0, alike-2 c)
+
+pub run_singly-requires : goal.run_singly-requires
+run_singly-requires c = let h = c.requires in (λ cut. h.2, λ going. rw c.draw_alike-ran.auto.memory h.3)
+
+pub returns : goal.returns
+unfolding after begun
+returns c =
+    let a = c.args in
+    let h = c.requires in
+    let n = c.alone.result in
+    let m = a.memory.now in
+    let ran = c.run_singly.ensures in
+    let allowed = c.alone.ensures in
+    let none : c.draw_alike-ran.result.done ≡ 0 = omega (arith, c.if-ran-gt0.false) in
+    let same = ap (λ (k : ℕ). (after a.setup k (begun a.pen m)).memory) (sym none) ∙ ap (λ (r : Run). r.memory) (alike c) in
+    let by : (k : ℕ) → after a.setup k (begun a.pen m) ≡ after a.setup k (begun a.pen c.draw_alike-ran.new.memory) = λ k. ap (λ (M : List ℕ). after a.setup k (begun a.pen M)) same in
+    let done = ran.1 ∙ sym (ap (λ (r : Run). r.done) (by n)) in (
+      rw done (done_some a.setup a.pen m n h.4 allowed.0),
+      omega (arith, done, allowed.1, (reached a.setup a.pen m n).0),
+      ap (λ (k : ℕ). after a.setup k (begun a.pen m)) done
+          ∙ after_done a.setup a.pen m n
+          ∙ by n
+          ∙ λ i. record { pen = sym ran.0 i; memory = sym ran.2 i; done = sym ran.1 i },
+    )
+
+pub alone-requires : goal.alone-requires
+alone-requires c = c.requires.5
+
+pub shape_of-memory : goal.shape_of-memory
+shape_of-memory c = c.run_singly.auto.memory ∙ c.draw_alike-ran.auto.memory
