@@ -1,6 +1,6 @@
 -- An offset or a length wider than 32 bits meets refusal 1 and changes nothing: the number that stands for it is none that a register write may have.
 use mathlib.Core.Path.{◌≡◌}
-use mathlib.Core.Bool.{and_false}
+use mathlib.Core.Bool.{and-false}
 use Prim.Native.Nat.{ℕ, ◌^◌, ◌≤◌}
 use native.Mathlib.Nat.{min-eq_right}
 use native.Mathlib.Omega.{arith}
@@ -19,7 +19,7 @@ largest n wide = min-eq_right (omega arith)
 pub wide_offset : (offset length value : ℕ) (c : Coprocessor) → 2 ^ 32 ≤ offset
     → write_told (fitted Largest offset) length value c ≡ record { answer = Refused 1; coprocessor = c }
 unfolding placed write_refusal write_answer outcome_of write_told
-wide_offset offset length value c wide = simp (largest offset wide, and_false)
+wide_offset offset length value c wide = simp (largest offset wide, and-false)
 
 pub wide_length : (offset length value : ℕ) (c : Coprocessor) → 2 ^ 32 ≤ length
     → write_told offset (fitted Largest length) value c ≡ record { answer = Refused 1; coprocessor = c }

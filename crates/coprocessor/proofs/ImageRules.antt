@@ -1,6 +1,6 @@
 -- Bytes load as the code asks it exactly where they load by the rules: the two are the same by the state, and in states 1 and 3 by the function.
 use mathlib.Core.Path.{◌≡◌, refl, sym, ◌∙◌}
-use mathlib.Core.Bool.{Bool, true, false, not, ◌&&◌, ◌||◌, and_true, or-false}
+use mathlib.Core.Bool.{Bool, true, false, not, ◌&&◌, ◌||◌, and-true, or-false}
 use mathlib.Core.List.{List}
 use Prim.Native.Nat.{ℕ}
 use native.Mathlib.Omega.{arith}
@@ -60,7 +60,7 @@ codes_state n = by (eqb n 3) refl
   where
     by : (t : Bool) → eqb n 3 ≡ t → eqb n 1 ≡ ((eqb n 1 || t) && not t)
     by true three = rw (eqb-true n 3 three)
-    by false other = rw (or-false, and_true)
+    by false other = rw (or-false, and-true)
 
 module _ (b : List ℕ) (f : Figure) (accepted inside : Bool) where
   -- whether bytes 9 to 14 are the counters of this drawing
@@ -91,8 +91,8 @@ module _ (b : List ℕ) (f : Figure) (accepted inside : Bool) where
       let done = eq-eqb (at 10 2 b) (at 10 2 b) refl in
       let passed = eq-eqb (at 12 2 b) (at 12 2 b) refl in
       let count = eq-eqb (at 14 1 b) (at 14 1 b) refl in
-      by_test Same (eqb (at 9 1 b) 0) (λ idle. rw (eqb-true (at 9 1 b) 0 idle, and_true)) (λ no_zero.
-      by_test Same (eqb (at 9 1 b) 2) (λ stopped. rw (eqb-true (at 9 1 b) 2 stopped, and_true)) (λ no_two.
+      by_test Same (eqb (at 9 1 b) 0) (λ idle. rw (eqb-true (at 9 1 b) 0 idle, and-true)) (λ no_zero.
+      by_test Same (eqb (at 9 1 b) 2) (λ stopped. rw (eqb-true (at 9 1 b) 2 stopped, and-true)) (λ no_two.
       let state = drawing_state (at 9 1 b) asked (zero_counters b) no_zero no_two in
       by_test Same (is_line f.operations) (λ line. rw (state, line, bit, done) (same _ _ (λ h. search parts) (λ h. search parts)))
       (λ no_line. by_test Same (is_codes f.operations)

@@ -1,0 +1,39 @@
+-- `ran` is the positions of the set-up and the pen that the record holds, which is safe.
+-- what the positions leave, in the record's terms
+use mathlib.Core.Path.{◌≡◌, refl, sym, ap, ◌∙◌}
+use mathlib.Core.Bool.{true}
+use Rattle.numbers.proofs.Choices.{choose_true}
+use Rattle.parts.specs.Refusals.{is_accepted}
+use Rattle.coprocessor.specs.Runs.{with_pen, run_refusal, ran_of, run_answer, run_memory}
+use Rattle.coprocessor.proofs.SafeLaws.{run_accepted, known_safe}
+use borrow.Author.Rules.{rules}
+use Rattle.coprocessor.proofs.Coprocessor.ran.Goals as goal
+use Rattle.coprocessor.proofs.Coprocessor.ran.Goals.{After-with_pen}
+
+left : (c : After-with_pen) → let a = c.args in
+    (c.run-ran.result.pen ≡ (ran_of a.self a.memory.now a.allowance).pen)
+    × (c.run-ran.result.done ≡ (ran_of a.self a.memory.now a.allowance).done)
+    × (c.run-ran.new.memory ≡ (ran_of a.self a.memory.now a.allowance).memory)
+unfolding ran_of
+left c = rw (← c.setup.ensures, ← c.pen.ensures) c.run-ran.ensures
+
+pub run-ran-requires : goal.run-ran-requires
+run-ran-requires c =
+    let start = c in
+    rw (c.setup.ensures, c.pen.ensures) (known_safe start.args.self start.args.memory.now start.requires.0 start.requires.1)
+
+pub returns : goal.returns
+unfolding run_answer run_memory
+returns c =
+    let start = c in
+    let self = start.args.self in
+    let allowed = run_accepted self _ start.requires.0 start.requires.1 in
+    let accepted : is_accepted (run_refusal self _) ≡ true = ap is_accepted allowed in
+    let p = left c in (
+      λ i. record {
+        refusal = sym allowed i;
+        done = (p.1 ∙ sym (choose_true _ 0 accepted)) i;
+        coprocessor = (c.with_pen.ensures ∙ ap (with_pen self) p.0 ∙ sym (choose_true _ self accepted)) i;
+      },
+      p.2 ∙ sym (choose_true _ _ accepted),
+    )
