@@ -1,0 +1,6 @@
+-- `number_at` is the number that the word at the start is.
+use borrow.Author.Rules.{rules}
+use Rattle.console.proofs.commands.number_at.Goals as goal
+
+pub returns : goal.returns
+returns c = rw (c.number.ensures, c.word.ensures)

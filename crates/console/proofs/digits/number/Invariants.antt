@@ -1,0 +1,16 @@
+-- `number` takes digit after digit into the number: with those that follow it stays the word's.
+use mathlib.Core.Path.{◌≡◌, sym, ◌∙◌}
+use Prim.Native.Nat.{◌+◌, ◌-◌, ◌^◌, ◌≤◌, ◌<◌}
+use native.Mathlib.Nat.{pos_of_ne-zero}
+use native.Mathlib.Omega.{arith}
+use lib.ListN.{length, drop}
+use borrow.Author.Rules.{rules}
+use Rattle.console.specs.Digits.{number_from, word_number}
+use Rattle.console.proofs.DigitLaws.{fitted_lt, number_end, number_stray, number_on, number_begins, number_none, room}
+use Rattle.console.proofs.digits.number.Given as goal
+
+abbrev pub invariant-loop-i : goal.invariant-loop-i
+invariant-loop-i l = (l.i ≤ length l.word) × (l.n < 2 ^ 32) × (number_from l.wide l.base l.n (drop l.i l.word) ≡ word_number l.wide l.base l.word)
+
+abbrev pub decreases-loop-i : goal.decreases-loop-i
+decreases-loop-i l = length l.word - l.i
