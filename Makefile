@@ -1,4 +1,5 @@
 # bench: plays lines on the bench program.   test: the whole gate.   compare: the proved code against the independent program.
+# mistakes: looks up that each mistake of the must-fail edits is refused for itself.
 # speed: the proved code beside plain Rust.   size: where the library's bytes go.   picture: a motif in target/picture.pgm.
 # example: the sample line from C.
 # What is being proved, and how far the comparison is, goes to standard error.
@@ -10,14 +11,17 @@ STRETCHES ?= 14000
 OUTLINES ?= 20000
 INPUT ?= crates/bench/stdin
 
-.PHONY: bench test compare speed size picture example library
+.PHONY: bench test mistakes compare speed size picture example library
 
 bench:
-	@scripts/prove.sh check bench
-	@target/bin/bench < $(INPUT)
+	@scripts/prove.sh run bench
+	@crates/bench/out/bench < $(INPUT)
 
 test:
 	.ci/run
+
+mistakes:
+	@tests/mistakes.sh
 
 compare: library
 	@cargo run --offline --quiet --release --manifest-path compare/Cargo.toml --bin compare -- \
@@ -40,6 +44,11 @@ example: library
 	@target/sample > target/sample.out
 	@diff target/sample.out c/sample.out && cat target/sample.out
 
+# The archives take the names of the libraries, and stay as they are where nothing in them changed.
 library:
-	@scripts/prove.sh staticlib leaves
-	@scripts/prove.sh staticlib board
+	@mkdir -p target/staticlib
+	@for name in leaves board; do \
+		scripts/prove.sh lib $${name}_c || exit 1; \
+		cmp -s crates/$${name}_c/out/lib$${name}_c.a target/staticlib/lib$$name.a || \
+			cp crates/$${name}_c/out/lib$${name}_c.a target/staticlib/lib$$name.a || exit 1; \
+	done

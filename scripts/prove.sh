@@ -1,75 +1,45 @@
 #!/usr/bin/env bash
-# Runs rt, and tells on standard error which crates are being proved, how many are left, and how long each took: on a terminal
+# Runs rt in a crate's folder, and tells on standard error which crate is being proved, how many are left, and how long each took: on a terminal
 # in one line that is rewritten, elsewhere in a line for each crate. What rt prints goes to target/NAME.log, and is shown if rt fails.
-# usage: scripts/prove.sh check|staticlib NAME     (in the repository's root)
+# usage: scripts/prove.sh check|lib|run NAME     (in the repository's root; run builds the program crates/NAME/out/NAME, and plays it on no input)
 set -uo pipefail
 verb=$1 name=$2 log=target/$2.log
-
-# rt goes level by level: check has as many crates of a level in hand as there are processors, staticlib one.
-jobs=1
-if [ "$verb" = check ]; then jobs=${RT_JOBS:-$(nproc)}; fi
-
-# plan: LEVEL:CRATE for NAME and all that it needs, in rt's order; a crate's level is one above the highest that it needs
-plan() {
-    awk -v wanted="$name" '
-        function visit(crate,    needs, count, i) {
-            if (crate in level || !(crate in known)) return
-            level[crate] = 0
-            count = split(known[crate], needs, " ")
-            for (i = 1; i <= count; i++) {
-                visit(needs[i])
-                if (needs[i] in known && level[needs[i]] >= level[crate]) level[crate] = level[needs[i]] + 1
-            }
-            print level[crate] ":" crate
-        }
-        { sub(/#.*/, "") }
-        split($0, line, ":") == 2 { known[line[1]] = line[2] }
-        END { visit(wanted) }' crates.txt | sort -s -t: -n -k1,1
-}
-
-# in_hand: the crates of those left that are being proved
-in_hand() {
-    local item first=${left[0]%:*}
-    for item in "${left[@]:0:jobs}"; do
-        if [ "${item%:*}" = "$first" ]; then printf ' %s' "${item#*:}"; fi
-    done
-}
 
 # rewrite: the terminal's line, as things stand
 rewrite() {
     if [ -t 2 ] && ((${#left[@]} > 0)); then
-        printf '\r\033[Kproving%s: %s s; %s of %s crates left%s' "$(in_hand)" $((SECONDS - since)) ${#left[@]} "$all" "$last" >&2
+        printf '\r\033[Kproving %s: %s s; %s of %s crates left%s' "${left[0]}" $((SECONDS - since)) ${#left[@]} "$all" "$last" >&2
     fi
 }
 
-# done_with CRATE [TIME]: takes the crate out of those left, and tells of it if it took time
-done_with() {
-    local item others=()
-    for item in "${left[@]}"; do
-        if [ "${item#*:}" != "$1" ]; then others+=("$item"); fi
-    done
-    left=("${others[@]}")
-    if [ $# -gt 1 ]; then
-        since=$SECONDS last="; $1 took $2"
-        if [ ! -t 2 ]; then printf 'proved %s (%s), %s of %s crates left\n' "$1" "$2" ${#left[@]} "$all" >&2; fi
-    fi
+# begun CRATE: those before it are proved unchanged, and rt says nothing of them
+begun() {
+    while ((${#left[@]} > 0)) && [ "${left[0]}" != "$1" ]; do left=("${left[@]:1}"); done
+    since=$SECONDS
+}
+
+# done_with_first: takes the first of those left out, and tells of it
+done_with_first() {
+    local took="$((SECONDS - since)) s"
+    last="; ${left[0]} took $took"
+    if [ ! -t 2 ]; then printf 'proved %s (%s), %s of %s crates left\n' "${left[0]}" "$took" $((${#left[@]} - 1)) "$all" >&2; fi
+    left=("${left[@]:1}")
+    since=$SECONDS
 }
 
 # heard LINE: what a line of rt tells
 heard() {
-    if [[ $1 =~ ^'rt: '([a-z_]+)' proved (unchanged' ]]; then
-        done_with "${BASH_REMATCH[1]}"
-    elif [[ $1 =~ ^'rt: '([a-z_]+)' proved ('([0-9]+ s)')'$ ]]; then
-        done_with "${BASH_REMATCH[1]}" "${BASH_REMATCH[2]}"
-    elif [[ $1 == "rt: target/staticlib/lib$name.a has "* ]]; then
-        done_with "$name" "$((SECONDS - since)) s"
+    if [[ $1 =~ ^'rt: chose --jobs '[0-9]+' for '([a-z0-9_]+)$ ]]; then
+        begun "${BASH_REMATCH[1]}"
+    elif [[ $1 == 'logic=proved '* ]] && ((${#left[@]} > 0)); then
+        done_with_first
     fi
 }
 
 # tell: tells of rt's lines as they come; a line may come in pieces
 tell() {
     local piece line='' status since=$SECONDS last='' left all
-    mapfile -t left < <(plan)
+    mapfile -t left < <(awk -v wanted="$name" -f scripts/below.awk crates.txt)
     all=${#left[@]}
     while rewrite; IFS= read -r -t 1 piece; status=$?; ((status == 0 || status > 128)); do
         line+=$piece
@@ -81,8 +51,18 @@ tell() {
     if [ -t 2 ]; then printf '\r\033[K' >&2; fi
 }
 
+# work: rt's own lines, without what a program prints
+work() {
+    cd "crates/$name" || return
+    if [ "$verb" = run ]; then
+        rt run </dev/null 2>&1 >/dev/null
+    else
+        rt "$verb" 2>&1
+    fi
+}
+
 mkdir -p target
-rt "$verb" "$name" 2>&1 | tee "$log" | tell || {
+work | tee "$log" | tell || {
     cat "$log"
     exit 1
 }

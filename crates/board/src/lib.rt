@@ -20,8 +20,7 @@ fn answer(refusal: Refusal, value: u32) -> u64
 
 // Makes the image that of a fresh state over a memory of this size: 0; 9 for a size outside the limit, with the image of a
 // fresh state of size 1; or 10 for a buffer not of 115 bytes. Such a buffer always stays as it is.
-#[unsafe(no_mangle)]
-pub extern "C" fn xga_fresh(image: &mut [u8], size: u32) -> u32
+pub fn xga_fresh(image: &mut [u8], size: u32) -> u32
     ensures { (result ≡ fresh_number image.old size) × (image.new ≡ fresh_image image.old size) }
 {
     let made = Coprocessor::fresh(size);
@@ -38,8 +37,7 @@ pub extern "C" fn xga_fresh(image: &mut [u8], size: u32) -> u32
 }
 
 // Writes the low bytes of `value` from `offset` on: 0, or the refusal, which leaves the image as it was.
-#[unsafe(no_mangle)]
-pub extern "C" fn xga_write(image: &mut [u8], offset: u32, length: u32, value: u32) -> u32
+pub fn xga_write(image: &mut [u8], offset: u32, length: u32, value: u32) -> u32
     ensures { (result ≡ write_number image.old (record { offset = offset; length = length; value = value }))
         × (image.new ≡ write_image image.old (record { offset = offset; length = length; value = value })) }
 {
@@ -58,8 +56,7 @@ pub extern "C" fn xga_write(image: &mut [u8], offset: u32, length: u32, value: u
 }
 
 // Reads `length` bytes from `offset` on: the refusal times 2 to the 32, plus the value.
-#[unsafe(no_mangle)]
-pub extern "C" fn xga_read(image: &[u8], offset: u32, length: u32) -> u64
+pub fn xga_read(image: &[u8], offset: u32, length: u32) -> u64
     ensures { result ≡ read_number image.now offset length }
 {
     let opened = Coprocessor::unpack(image);
@@ -74,8 +71,7 @@ pub extern "C" fn xga_read(image: &[u8], offset: u32, length: u32) -> u64
 }
 
 // Does at most `allowance` positions of the drawing in hand: the refusal times 2 to the 32, plus the positions done.
-#[unsafe(no_mangle)]
-pub extern "C" fn xga_run(image: &mut [u8], memory: &mut [u8], allowance: u32) -> u64
+pub fn xga_run(image: &mut [u8], memory: &mut [u8], allowance: u32) -> u64
     ensures { (result ≡ run_number image.old memory.old allowance)
         × (image.new ≡ run_image image.old memory.old allowance)
         × (memory.new ≡ run_bytes image.old memory.old allowance) }
@@ -92,8 +88,7 @@ pub extern "C" fn xga_run(image: &mut [u8], memory: &mut [u8], allowance: u32) -
 }
 
 // 0 where the image would load, otherwise 10.
-#[unsafe(no_mangle)]
-pub extern "C" fn xga_load(image: &[u8]) -> u32
+pub fn xga_load(image: &[u8]) -> u32
     ensures { result ≡ load_number image.now }
 {
     let opened = Coprocessor::unpack(image);

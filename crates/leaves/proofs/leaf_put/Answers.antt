@@ -1,0 +1,8 @@
+-- `leaf_put` leaves memory with another pixel: where its byte is not in the memory that is the memory as it was.
+use mathlib.Core.Path.{sym}
+use native.Mathlib.Omega.{arith}
+use Rattle.pixels.proofs.Pixels.{put_beyond}
+use Rattle.leaves.proofs.leaf_put.Goals as goal
+
+pub returns-else-at-memory : goal.returns-else-at-memory
+returns-else-at-memory c = sym (put_beyond _ _ _ _ _ (omega (arith, c.place-at.ensures)))
