@@ -1,4 +1,5 @@
 -- `xga_fresh` lays the fresh state, which is valid, into a buffer of an image's length; its own refusal comes before that of another length.
+-- over a buffer of an image's length, the number is that of the fresh state
 use mathlib.Core.Path.{◌≡◌, refl, sym, ap, ◌∙◌}
 use mathlib.Core.Bool.{true}
 use mathlib.Core.List.{List}
@@ -17,10 +18,9 @@ use Rattle.laws.proofs.Refused.{fresh_valid, fresh_answer_valid}
 use Rattle.laws.proofs.LoadedLaws.{saved_valid}
 use Rattle.board.specs.Calls.{fresh_number, fresh_image}
 use borrow.Author.Rules.{rules}
-use Rattle.board.proofs.xga_fresh.Statement.{statement}
-use Rattle.board.proofs.xga_fresh.Tie as tie
+use Rattle.board.proofs.xga_fresh.Goals as goal
+use Rattle.board.proofs.xga_fresh.Goals.{After-number-else-accepts, Then-accepts}
 
--- over a buffer of an image's length, the number is that of the fresh state
 long-number : (image : List ℕ) (size : ℕ) → length image ≡ image_length → refusal_number (fresh_answer size).refusal ≡ fresh_number image size
 unfolding fresh_number fresh_answer saves save_refusal
 long-number image size long =
@@ -31,41 +31,30 @@ long-number image size long =
     (λ holds. rw (eq-eqb _ _ long, fresh_valid size holds))
     (λ other. refl)
 
-told : (c : tie.After-accepts) → c.accepts.result ≡ is_accepted (fresh_answer c.before.before.before.before.args.size).refusal
-told c = c.accepts.ensures ∙ ap (λ (r : Written). is_accepted r.refusal) c.before.before.fresh.ensures
+told : (c : After-number-else-accepts) → c.accepts.result ≡ is_accepted (fresh_answer c.args.size).refusal
+told c = c.accepts.ensures ∙ ap (λ (r : Written). is_accepted r.refusal) c.fresh-made.ensures
 
-returns : tie.Need-returns
+told-2 : (c : Then-accepts) → c.accepts.result ≡ is_accepted (fresh_answer c.args.size).refusal
+told-2 c = c.accepts.ensures ∙ ap (λ (r : Written). is_accepted r.refusal) c.fresh-made.ensures
+
+pub returns-then-image-eq-BYTES : goal.returns-then-image-eq-BYTES
 unfolding fresh_image
-returns c =
-    let l = c.before.before.before.before.before in
-    let long = l.if1.true in
-    let made = l.before.fresh.ensures in (
+returns-then-image-eq-BYTES c =
+    let l = c in
+    let long = l.if-image-eq-BYTES.true in
+    let made = l.fresh-made.ensures in (
       c.number.ensures ∙ ap (λ (r : Written). refusal_number r.refusal) made ∙ long-number _ _ long,
-      c.before.before.before.save-known.ensures ∙ ap (λ (r : Written). image_of r.coprocessor) made
+      c.save_known.ensures ∙ ap (λ (r : Written). image_of r.coprocessor) made
           ∙ sym (saved_valid _ _ long (fresh_answer_valid _)),
     )
 
-returns-2 : tie.Need-returns-2
+pub returns-then-accepts : goal.returns-then-accepts
 unfolding fresh_number fresh_image saves save_refusal saved
-returns-2 c = let other = ne_eqb _ _ c.before.before.if1.false in (simp (sym (told c.before) ∙ c.if2.true, other), simp other)
+returns-then-accepts c = let other = ne_eqb _ _ c.if-image-eq-BYTES.false in (simp (sym (told-2 c) ∙ c.if-accepts.true, other), simp other)
 
-returns-3 : tie.Need-returns-3
+pub returns-else-accepts : goal.returns-else-accepts
 unfolding fresh_number fresh_image saves saved
-returns-3 c =
-    let e = c.before in
-    let made = ap (λ (r : Written). refusal_number r.refusal) e.before.before.before.fresh.ensures in
-    (simp (sym (told e.before) ∙ e.if2.false) (c.number2.ensures ∙ made), simp (ne_eqb _ _ e.before.before.if1.false))
-
-pub xga-fresh-spec : {M : Type 1} → statement M
-xga-fresh-spec =
-    tie.close
-    (tie.spec
-    (λ c κs. search rules)
-    (λ c κs. search rules)
-    (λ c κs. search rules)
-    (λ c. search rules)
-    returns
-    (λ c κs. search rules)
-    (λ c κs. search rules)
-    returns-2
-    returns-3)
+returns-else-accepts c =
+    let e = c in
+    let made = ap (λ (r : Written). refusal_number r.refusal) e.fresh-made.ensures in
+    (simp (sym (told c) ∙ e.if-accepts.false) (c.number-else-accepts.ensures ∙ made), simp (ne_eqb _ _ e.if-image-eq-BYTES.false))
