@@ -9,7 +9,7 @@ ghost use Rattle.bench.specs.Played.{first_reading, reads_on, progress_of, Turne
 mod session;
 
 use crate::session::{Bench, end_input, first_bench, take_piece};
-use libc::{STDIN_FILENO, STDOUT_FILENO};
+use std::io::{Input, Print, Read};
 
 // The bench between two reads: whether there may be more to read, and how many reads are left. A proved loop has to end, and
 // nothing says that the input does, so they are counted down from a number that no run uses up.
@@ -40,21 +40,26 @@ fn reads_on(reading: Reading) -> bool
 }
 
 // Reads once, and answers how many bytes came, none at the input's end. Which bytes the system delivers no promise can say.
-fn hear(piece: &mut [u8]) -> usize
+fn hear(rt: &impl Input, piece: &mut [u8]) -> usize
     ensures prefix_len { IsPrefixLen result piece.new }
     ensures upper_bound { result ≤ length piece.old }
 {
-    let got = libc::read(STDIN_FILENO, piece);
-    io::count(got, piece)
+    match rt.reader().read(piece) {
+        Ok(came) => came,
+        Err(_) => 0,
+    }
 }
 
 // Hands the text that waits on to the system, and lets none wait. That the system writes it no promise can say.
-fn hand_on(bench: Bench, out: &[u8]) -> Bench
+fn hand_on(rt: &impl Print, bench: Bench, out: &[u8]) -> Bench
     requires { bench.laid ≤ length out.now }
     ensures { result ≡ emptied bench }
 {
     let laid = bench.laid;
-    io::write_all(STDOUT_FILENO, &out[..laid]);
+    match rt.write_all(&out[..laid]) {
+        Ok(()) => {}
+        Err(_) => {}
+    }
     let board = bench.board;
     Bench {
         board,
@@ -66,6 +71,7 @@ fn hand_on(bench: Bench, out: &[u8]) -> Bench
 
 // Reads once into the piece, takes what came there, and hands on what it prints.
 fn turn(
+    rt: &(impl Input + Print),
     reading: Reading,
     piece: &mut [u8],
     buffer: &mut [u8; 256],
@@ -76,10 +82,10 @@ fn turn(
     ensures { Turned piece.new (progress_of reading memory.old buffer.old out.old)
         (progress_of result memory.new buffer.new out.new) × (result.bench.laid ≡ 0) }
 {
-    let came = hear(piece);
+    let came = hear(rt, piece);
     let bench = reading.bench;
     let taken = take_piece(bench, &piece[..came], buffer, memory, out);
-    let next = hand_on(taken, out);
+    let next = hand_on(rt, taken, out);
     Reading {
         bench: next,
         more: 0 < came,
@@ -89,6 +95,7 @@ fn turn(
 
 // Reads to the input's end.
 fn read_all(
+    rt: &(impl Input + Print),
     reading: Reading,
     buffer: &mut [u8; 256],
     memory: &mut [u8; 64],
@@ -101,26 +108,31 @@ fn read_all(
     let mut state = reading;
     let mut piece = [0u8; 1024];
     while reads_on(state) {
-        state = turn(state, &mut piece, buffer, memory, out);
+        state = turn(rt, state, &mut piece, buffer, memory, out);
     }
     state
 }
 
 // Plays the whole input over zero bytes, and hands on what it prints.
-fn play(buffer: &mut [u8; 256], memory: &mut [u8; 64], out: &mut [u8; 65536]) -> Bench
+fn play(
+    rt: &(impl Input + Print),
+    buffer: &mut [u8; 256],
+    memory: &mut [u8; 64],
+    out: &mut [u8; 65536],
+) -> Bench
     requires { (buffer.old ≡ replicate 256 0) × (memory.old ≡ replicate 64 0) }
     ensures { Played (session_of result memory.new buffer.new out.new) }
 {
     let first = first_reading();
-    let read = read_all(first, buffer, memory, out);
+    let read = read_all(rt, first, buffer, memory, out);
     let bench = read.bench;
     let ended = end_input(bench, buffer, memory, out);
-    hand_on(ended, out)
+    hand_on(rt, ended, out)
 }
 
-fn main() {
+fn main(rt: HostRuntime) {
     let mut buffer = [0u8; 256];
     let mut memory = [0u8; 64];
     let mut out = io::large_buffer();
-    play(&mut buffer, &mut memory, &mut out);
+    play(&rt, &mut buffer, &mut memory, &mut out);
 }
