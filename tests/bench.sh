@@ -1,7 +1,11 @@
 #!/bin/sh
-# Runs target/bin/bench on inputs that its stored sample does not have, and compares what it prints byte by byte.
-# usage: tests/bench.sh [PROGRAM]     (in the repository's root, after `rt check bench`)
-program=${1:-target/bin/bench}
+# Runs the bench program on inputs that its stored sample does not have, and compares what it prints byte by byte.
+# usage: tests/bench.sh [PROGRAM]     (in the repository's root, after `make bench` or `rt ci`; rt ci builds it by each of its two compilers)
+program=${1:-crates/bench/out/bench}
+if [ $# -eq 0 ] && [ -f "$program.by-rattle" ] && [ ! "$program.by-rattle" -ot "$program" ]; then
+    "$0" "$program.by-rattle" || exit
+fi
+echo "$program:"
 work=$(mktemp -d) || exit 2
 trap 'rm -rf "$work"' EXIT
 failed=0

@@ -1,5 +1,5 @@
 #!/bin/sh
-# Whether the documents name what is there: places cited by line, theorems, definitions, must-fail edits, decisions, crates, and refusals.
+# Whether the documents name what is there: places cited by line, theorems, definitions, functions, must-fail edits, decisions, crates, and refusals.
 # usage: tests/docs.sh     (in the repository's root)
 work=$(mktemp -d) || exit 2
 trap 'rm -rf "$work"' EXIT
@@ -14,7 +14,7 @@ tell() {
 grep -o '`[a-z]*/[A-Za-z_/]*\.antt:[0-9]*`, `[^`]*`' docs/READING.md | tr -d '`,' >"$work/cited"
 while read -r place name; do
     file=crates/${place%:*}
-    line=$(sed -n "${place##*:}p" "$file" | sed 's/^unfoldable //; s/^pub //; s/^record //; s/^data //')
+    line=$(sed -n "${place##*:}p" "$file" | sed -E 's/^ *((pub|abbrev|unfoldable|record|data) )*//')
     case $line in
     "$name "*) ;;
     *) tell "$place is not $name" ;;
@@ -22,28 +22,81 @@ while read -r place name; do
 done <"$work/cited"
 [ -s "$work/cited" ] || tell 'docs/READING.md cites no place'
 
-# named PATTERN: the names of this form that the documents have between backquotes
-named() {
-    grep -ohE "\`$1\`" README.md docs/*.md docs/manual/*.md | tr -d '`' | sort -u
+# stated FOLDER: what the files in this folder of the crates define or prove
+stated() {
+    find crates/*/"$1" -name '*.antt' -exec sed -nE \
+        "s/^ *((pub|abbrev|unfoldable|opaque|record|data) )*([A-Za-z][A-Za-z0-9_'-]*)( *(\{[^}]*\}|\([^)]*\)))* :( .*)?\$/\3/p" {} + | sort -u
 }
+stated specs >"$work/is-definitions"
+stated proofs >"$work/is-theorems"
+sed -nE 's/^ *(pub(\([a-z]+\))? )?((const )?fn |const |)([a-z][a-z0-9_]*)(<.*)?(\(|: ).*/\5/p' crates/*/src/*.rt | sort -u >"$work/is-functions"
+for edit in crates/*/must-fail/*.edit; do basename "$edit" .edit; done | sort -u >"$work/is-edits"
+grep -ohE '[a-z]+(_[a-z0-9]+)+' c/* | sort -u >"$work/is-c"
+sed -nE 's/^([a-z_]+)( staticlib)?:.*/\1/p' crates.txt >"$work/crates"
+sort -u "$work/crates" >"$work/is-crates"
+sed -nE 's/^ *(pub )?fn ([a-z][a-z0-9_]*).*/\2/p' model/src/*.rs model/tests/*.rs compare/src/*.rs compare/src/*/*.rs compare/tests/*.rs | sort -u >"$work/is-tests"
+sort -u "$work"/is-* >"$work/known"
 
-# Names with hyphens are theorems, and names with a capital inside are definitions.
-named '[a-z]+(-[a-z]+)+' >"$work/theorems"
-while read -r name; do
-    grep -rqE "^ *(pub )?$name :" crates/*/proofs || tell "there is no theorem $name"
-done <"$work/theorems"
-named '[a-z]+[A-Z][A-Za-z]*' >"$work/definitions"
-while read -r name; do
-    grep -rq "pub $name :" crates/*/specs || tell "there is no definition $name"
-done <"$work/definitions"
+# Each cell's heading, and a name that the cell has between backquotes, its arguments and its type left out.
+awk '
+    /^\|/ {
+        if ($0 ~ /^\|[-|]*$/) { split(before, heads, " *\\| *"); in_table = 1; next }
+        before = $0
+        count = in_table ? split($0, cells, " *\\| *") : 0
+        for (i = 2; i < count; i++)
+            while (match(cells[i], /`[^`]*`/)) {
+                name = substr(cells[i], RSTART + 1, RLENGTH - 2)
+                cells[i] = substr(cells[i], RSTART + RLENGTH)
+                sub(/\(.*/, "", name)
+                sub(/.*::/, "", name)
+                head = heads[i]
+                sub(/ .*/, "", head)
+                print head, name
+            }
+        next
+    }
+    { in_table = 0 }' README.md docs/*.md docs/manual/*.md | sort -u >"$work/cells"
 
-# Every edit is named in docs/PROMISES.md, in brackets behind what it rules out, and no other is.
-ls crates/*/must-fail/*.edit | sed 's|.*/||; s|\.edit$||' | sort -u >"$work/edits"
+# column HEADING KIND..: the names of this form under this heading are all of one of these kinds
+column() {
+    heading=$1
+    shift
+    for kind in "$@"; do cat "$work/is-$kind"; done | sort -u >"$work/of-kind"
+    sed -nE "s/^$heading ([A-Za-z][a-z0-9]*([_-][a-z0-9]+)*)\$/\1/p" "$work/cells" | sort -u >"$work/under"
+    comm -23 "$work/under" "$work/of-kind" >"$work/absent"
+    while read -r name; do tell "in a table under '$heading' is $name, which is none of the $*"; done <"$work/absent"
+    echo "documents, $heading: $(wc -l <"$work/under") looked up"
+}
+column Theorem theorems
+column Law theorems
+column Definition definitions
+column Function functions theorems definitions
+column Call functions
+column Method functions
+
+# Everywhere else too a name of several words is one that is there; the log's words for a goal are the log's alone.
+sed '/^| Crate | What is right/,/^$/s/[^|]*|$//' docs/PROMISES.md >"$work/promises"
+grep -ohE '`([a-z][a-z0-9]*([_-][a-z0-9]+)+|[a-z]+[A-Z][A-Za-z]*)`' README.md "$work/promises" $(ls docs/*.md docs/manual/*.md | grep -v PROMISES.md) |
+    tr -d '`' | sort -u >"$work/names"
+comm -23 "$work/names" "$work/known" >"$work/absent"
+while read -r name; do tell "there is no $name"; done <"$work/absent"
+cp "$work/names" "$work/left"
+for kind in definitions theorems functions edits c tests; do
+    comm -12 "$work/left" "$work/is-$kind" >"$work/$kind"
+    comm -23 "$work/left" "$work/is-$kind" >"$work/rest"
+    mv "$work/rest" "$work/left"
+done
+
+# A statement that docs/READING.md quotes stands so in a proof.
+sed -n 's/^    \([a-z_]* : .*\)/\1/p' docs/READING.md >"$work/statements"
+while read -r statement; do grep -rqxF -e "$statement" -e "pub $statement" crates/*/proofs || tell "no proof has the statement $statement"; done <"$work/statements"
+
+# Every edit is named in docs/PROMISES.md, in brackets behind what it rules out, and nothing else is but a theorem.
 grep -o '(`[a-z0-9_]*`\(, `[a-z0-9_]*`\)*)' docs/PROMISES.md | grep -o '[a-z0-9_]\{2,\}' | sort -u >"$work/named"
-comm -23 "$work/edits" "$work/named" >"$work/unnamed"
-comm -13 "$work/edits" "$work/named" >"$work/absent"
+comm -23 "$work/is-edits" "$work/named" >"$work/unnamed"
+sort -u "$work/is-edits" "$work/is-theorems" | comm -13 - "$work/named" >"$work/absent"
 while read -r name; do tell "docs/PROMISES.md does not name the edit $name"; done <"$work/unnamed"
-while read -r name; do tell "docs/PROMISES.md names $name, which is no edit"; done <"$work/absent"
+while read -r name; do tell "docs/PROMISES.md names $name, which is no edit and no theorem"; done <"$work/absent"
 
 # Every decision that is cited by its number, there or in a source, stands in docs/DECISIONS.md; there a number in brackets cites one too.
 sed -n 's/^\([0-9]*\)\. .*/\1/p' docs/DECISIONS.md | sort >"$work/decided"
@@ -57,8 +110,7 @@ while read -r number; do tell "decision $number is cited, and docs/DECISIONS.md 
 [ -s "$work/decisions" ] || tell 'no decision is cited'
 
 # The README's table has the crates of crates.txt, in their order.
-sed -n 's/^\([a-z]*\):.*/\1/p' crates.txt >"$work/crates"
-sed -n 's/^| `\([a-z]*\)` |.*/\1/p' README.md | cmp -s "$work/crates" - || tell "README.md's table does not have the crates of crates.txt"
+sed -n 's/^| `\([a-z_]*\)` |.*/\1/p' README.md | cmp -s "$work/crates" - || tell "README.md's table does not have the crates of crates.txt"
 
 # The refusals of the code, by number and name, are those of c/xga.h and of the manual's table.
 sed -n 's/^ *Refusal::\([A-Z][a-z]*\) => \([1-9][0-9]*\),$/\2 \1/p' crates/parts/src/refusals.rt | tr '[:lower:]' '[:upper:]' >"$work/refusals"
@@ -67,7 +119,7 @@ sed -n 's/^| \([0-9]*\) | `XGA_REFUSED_\([A-Z]*\)` |.*/\1 \2/p' docs/manual/refu
     tell 'docs/manual/refusals.md names other refusals than the code'
 [ -s "$work/refusals" ] || tell 'the code has no refusals'
 
-for kind in cited theorems definitions edits decisions crates refusals; do
+for kind in cited definitions theorems functions edits c tests statements decisions crates refusals; do
     echo "documents, $kind: $(wc -l <"$work/$kind") looked up"
 done
 exit $failed
