@@ -2,11 +2,10 @@
 use native.Mathlib.Nat.{add-zero, sub-zero}
 use Rattle.numbers.proofs.ByteLaws.{read_next, pow_next, pow_within}
 use mathlib.Core.Path.{◌≡◌, refl}
-use Prim.Native.Nat.{◌+◌, ◌-◌, ◌^◌, ◌≤◌, ◌<◌}
+use Prim.Native.Nat.{◌+◌, ◌-◌}
 use native.Mathlib.Omega.{arith}
 use native.Mathlib.Nat.{le_refl}
 use lib.Dec.{lit<}
-use lib.ListN.{take, drop}
 use Rattle.numbers.specs.Bytes.{number_of}
 use Rattle.numbers.proofs.bytes.fetch.Goals as goal
 

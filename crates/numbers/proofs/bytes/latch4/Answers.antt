@@ -1,6 +1,5 @@
 -- `latch4` is the register of four bytes after the write: two pairs, put together by `latched_four`.
 use Rattle.numbers.proofs.ByteLaws.{latched_four}
-use borrow.Author.Rules.{rules}
 use Rattle.numbers.proofs.bytes.latch4.Goals as goal
 
 pub returns : goal.returns

@@ -1,7 +1,6 @@
 -- `latch_byte` takes the write's byte exactly where the write covers the offset: the two tests are the two halves of `covers`.
 use borrow.Author.Tests.{lt-leb, le-leb, lt-ltb, le-ltb}
 use Rattle.numbers.specs.Bytes.{covers}
-use borrow.Author.Rules.{rules}
 use Rattle.numbers.proofs.bytes.latch_byte.Goals as goal
 
 pub returns-then-at-offset : goal.returns-then-at-offset

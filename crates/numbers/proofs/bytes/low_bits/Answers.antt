@@ -3,7 +3,6 @@ use Prim.Native.Nat.{◌*◌, ◌%◌, ◌^◌}
 use native.Mathlib.Omega.{arith}
 use native.Mathlib.Nat.{mod-le}
 use lib.Pow.{pow_pos}
-use borrow.Author.Rules.{rules}
 use Rattle.numbers.proofs.Fields.{one_shl}
 use Rattle.numbers.proofs.bytes.low_bits.Goals as goal
 

@@ -4,7 +4,6 @@ use native.Mathlib.Nat.{mod-lt, lt_of_lt_of_le, one-le-pow, pow-le-pow_right}
 use lib.Dec.{lit<}
 use Rattle.numbers.specs.Bytes.{part_of}
 use Rattle.numbers.proofs.ByteLaws.{two_pow_eight, one_shifted}
-use borrow.Author.Rules.{rules}
 use Rattle.numbers.proofs.bytes.part.Goals as goal
 
 pub nonzero_rem-result : goal.nonzero_rem-result

@@ -1,10 +1,8 @@
 -- `store` lays the bytes: what is left to lay, laid on the buffer as it is, is always the whole laid on the buffer as it was.
-use mathlib.Core.Path.{◌≡◌, refl, sym, ◌∙◌}
-use Prim.Native.Nat.{◌+◌, ◌-◌, ◌≤◌, zero-le}
+use mathlib.Core.Path.{refl, sym, ◌∙◌}
+use Prim.Native.Nat.{zero-le}
 use native.Mathlib.Omega.{arith}
-use lib.ListN.{length, length-set}
-use lib.Seq.{sets}
-use Rattle.numbers.specs.Bytes.{le}
+use lib.ListN.{length-set}
 use Rattle.numbers.proofs.ByteLaws.{lay_first, lay_next, lay_last}
 use Rattle.numbers.proofs.bytes.store.Goals as goal
 

@@ -3,7 +3,6 @@ use lib.Dec.{lit<}
 use mir.Syntax.{w16}
 use mir.ValLaws.{to_z-of_z}
 use Rattle.numbers.proofs.CircleLaws.{circle_back}
-use borrow.Author.Rules.{rules}
 use Rattle.numbers.proofs.circles.destination_back.Goals as goal
 
 pub returns : goal.returns

@@ -2,7 +2,6 @@
 use Prim.Native.Nat.{◌+◌}
 use native.Mathlib.Omega.{arith}
 use native.Mathlib.Nat.{mod-lt}
-use borrow.Author.Rules.{rules}
 use Rattle.numbers.proofs.circles.remainder.Goals as goal
 
 pub overflow_cast-result-3 : goal.overflow_cast-result-3

@@ -1,7 +1,6 @@
 -- `signed_word` is the machine's reading of its four bytes: from the half on it is the mirror of its distance from the top.
 use mir.Syntax.{w32}
 use Rattle.numbers.proofs.SignedBytes.{mirror_fits, mirror_signed}
-use borrow.Author.Rules.{rules}
 use Rattle.numbers.proofs.circles.signed_word.Goals as goal
 
 pub overflow_sub-result-else-x-lt2147483648 : goal.overflow_sub-result-else-x-lt2147483648

@@ -3,7 +3,6 @@ use Prim.Native.Nat.{◌+◌, ◌-◌}
 use native.Mathlib.Omega.{arith}
 use native.Mathlib.Nat.{mod-eq_of_lt}
 use Rattle.numbers.proofs.CircleLaws.{back_one, back_first}
-use borrow.Author.Rules.{rules}
 use Rattle.numbers.proofs.circles.step_back.Goals as goal
 
 pub returns-then-x-eq0 : goal.returns-then-x-eq0

@@ -2,7 +2,6 @@
 use mathlib.Core.Path.{sym}
 use native.Mathlib.Omega.{arith}
 use Rattle.numbers.proofs.CircleLaws.{forth_inside, forth_last}
-use borrow.Author.Rules.{rules}
 use Rattle.numbers.proofs.circles.step_forth.Goals as goal
 
 pub returns-then-x-last : goal.returns-then-x-last

@@ -5,7 +5,6 @@ use mir.Syntax.{w32}
 use mir.ValLaws.{to_z-of_z, to_z_pos}
 use Rattle.numbers.specs.Circles.{circle, forth, residue}
 use Rattle.numbers.proofs.SignedLaws.{sub_fits}
-use borrow.Author.Rules.{rules}
 use Rattle.numbers.proofs.circles.term.Goals as goal
 
 abbrev place : ℕ → ℕ

@@ -3,7 +3,6 @@ use lib.Dec.{lit<}
 use mir.Syntax.{w32}
 use mir.ValLaws.{to_z-of_z}
 use Rattle.numbers.proofs.CircleLaws.{circle_sum}
-use borrow.Author.Rules.{rules}
 use Rattle.numbers.proofs.circles.term_sum.Goals as goal
 
 pub returns : goal.returns
