@@ -56,6 +56,5 @@ pub fn pointers_hold(operations: u32, maps: [Map; 4], pointers: Pointers) -> boo
     let source = pointers.source;
     let pattern = pointers.pattern;
     (!uses_source(operations) | is_inside(map_at(maps, source_field(operations)), source))
-        & (!uses_pattern(operations)
-            | is_inside(map_at(maps, pattern_field(operations)), pattern))
+        & (!uses_pattern(operations) | is_inside(map_at(maps, pattern_field(operations)), pattern))
 }

@@ -1,7 +1,6 @@
 -- `mixes::mix` meets its contract: a logical mix is its blend, and any other is merged under the plane mask on the pixel's low bits, which are all that counts.
 use mathlib.Core.Path.{◌≡◌, ◌∙◌, sym, ap}
 use Prim.Native.Nat.{◌%◌, ◌^◌, ◌<◌}
-use borrow.Author.Rules.{rules}
 use lib.Bits.{bit_and, and_mask, mask_lt}
 use Rattle.mixes.specs.Mixes.{merged}
 use Rattle.mixes.proofs.ArithmeticMixes.{arithmetic_lt}

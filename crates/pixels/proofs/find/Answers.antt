@@ -1,7 +1,6 @@
 -- `find` is the definition, with each part of it found once; the byte is there by what is required.
 use Rattle.pixels.specs.Pixels.{byte_at}
 use Rattle.pixels.specs.Inner.{cell_at}
-use borrow.Author.Rules.{rules}
 use Rattle.pixels.proofs.find.Goals as goal
 
 pub bounds-memory-at : goal.bounds-memory-at

@@ -2,7 +2,6 @@
 use Rattle.pixels.specs.Pixels.{pixel_at}
 use Rattle.pixels.specs.Inner.{cell_at}
 use Rattle.pixels.proofs.Pixels.{cell_in_byte}
-use borrow.Author.Rules.{rules}
 use Rattle.pixels.proofs.get.Goals as goal
 
 pub value-requires : goal.value-requires

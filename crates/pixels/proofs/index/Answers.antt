@@ -2,7 +2,6 @@
 use Prim.Native.Nat.{◌*◌, ◌+◌, ◌≤◌}
 use native.Mathlib.Nat.{mul-le-mul}
 use native.Mathlib.Omega.{arith}
-use borrow.Author.Rules.{rules}
 use Rattle.pixels.proofs.index.Goals as goal
 use Rattle.pixels.proofs.index.Goals.{After-struct_known-1}
 

@@ -1,7 +1,6 @@
 -- `mask` is one less than a power of two: the shift of 1 is that power, and is not 0.
 use native.Mathlib.Omega.{arith}
 use lib.Pow.{pow_pos}
-use borrow.Author.Rules.{rules}
 use Rattle.numbers.proofs.Fields.{one_shl}
 use Rattle.pixels.proofs.mask.Goals as goal
 

@@ -2,7 +2,6 @@
 use Prim.Native.Nat.{◌+◌, ◌*◌, ◌≤◌}
 use native.Mathlib.Nat.{mul-le-mul}
 use native.Mathlib.Omega.{arith}
-use borrow.Author.Rules.{rules}
 use Rattle.pixels.specs.Maps.{needed_of}
 use Rattle.pixels.proofs.Maps.{bits_le}
 use Rattle.pixels.proofs.needed.Goals as goal

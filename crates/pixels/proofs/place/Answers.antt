@@ -1,6 +1,5 @@
 -- `place` is that of the pixel's number.
 use mathlib.Core.Path.{ap, ◌∙◌}
-use borrow.Author.Rules.{rules}
 use Rattle.pixels.specs.Maps.{start_of, place_of}
 use Rattle.pixels.specs.Inner.{place_at}
 use Rattle.pixels.proofs.place.Goals as goal

@@ -1,8 +1,4 @@
 -- `place_at` is the byte of the pixel's first bit: eight bits a byte, so the size's shift up and 3 down are one shift down.
-use Prim.Native.Nat.{◌-◌, ◌%◌}
-use native.Mathlib.Omega.{arith}
-use lib.Pow.{shr_le}
-use borrow.Author.Rules.{rules}
 use Rattle.pixels.proofs.Maps.{start_shr}
 use Rattle.pixels.proofs.place_at.Goals as goal
 

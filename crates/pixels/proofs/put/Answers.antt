@@ -2,7 +2,6 @@
 use Rattle.pixels.specs.Pixels.{with_pixel}
 use Rattle.pixels.specs.Inner.{cell_at}
 use Rattle.pixels.proofs.Pixels.{cell_in_byte, cell_in_memory}
-use borrow.Author.Rules.{rules}
 use Rattle.pixels.proofs.put.Goals as goal
 
 pub store-requires : goal.store-requires

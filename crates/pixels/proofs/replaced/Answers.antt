@@ -4,7 +4,6 @@ use native.Mathlib.Nat.{mod-lt}
 use native.Mathlib.Omega.{arith}
 use lib.Bits.{and_mask, xor_lt}
 use lib.Pow.{pow_pos, shl_exact}
-use borrow.Author.Rules.{rules}
 use Rattle.numbers.specs.Fields.{with_field}
 use Rattle.numbers.proofs.Fields.{field_lt, with_field_xor, with_field_lt}
 use Rattle.pixels.proofs.replaced.Goals as goal

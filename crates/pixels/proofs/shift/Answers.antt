@@ -1,6 +1,5 @@
 -- `shift` is that of the pixel's number.
 use mathlib.Core.Path.{ap, ◌∙◌}
-use borrow.Author.Rules.{rules}
 use Rattle.pixels.specs.Maps.{start_of, shift_of}
 use Rattle.pixels.specs.Inner.{shift_at}
 use Rattle.pixels.proofs.shift.Goals as goal

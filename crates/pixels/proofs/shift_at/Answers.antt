@@ -4,7 +4,6 @@ use Prim.Native.Nat.{ℕ, ◌*◌, ◌%◌, ◌^◌}
 use native.Mathlib.Omega.{arith}
 use lib.Bits.{bit_xor, and_mask}
 use lib.Pow.{mod-mod-pow}
-use borrow.Author.Rules.{rules}
 use Rattle.pixels.specs.Maps.{bits_of}
 use Rattle.pixels.proofs.Maps.{number_turned}
 use Rattle.pixels.proofs.shift_at.Goals as goal

@@ -1,5 +1,4 @@
 -- `store` sets the one byte, with another field.
-use borrow.Author.Rules.{rules}
 use Rattle.pixels.proofs.store.Goals as goal
 
 pub returns : goal.returns

@@ -1,6 +1,5 @@
 -- `taken` is a field of the byte: a mask of n bits leaves the n low ones.
 use lib.Bits.{and_mask}
-use borrow.Author.Rules.{rules}
 use Rattle.numbers.specs.Fields.{field}
 use Rattle.pixels.proofs.taken.Goals as goal
 

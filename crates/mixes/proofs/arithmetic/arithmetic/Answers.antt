@@ -1,5 +1,4 @@
 -- `mixes::arithmetic::arithmetic` meets its contract: each arm is its code's place in the list of the mixes, worked on the enabled bits where they stand.
-use borrow.Author.Rules.{rules}
 use Rattle.mixes.specs.Mixes.{worked, arithmetic}
 use Rattle.mixes.proofs.Codes.{past}
 use Rattle.mixes.proofs.ArithmeticMixes.{arithmetic_past, greater_standing, lesser_standing, difference_standing}

@@ -1,15 +1,12 @@
 -- `mixes::arithmetic::average` meets its contract: what is made of the half and what is left of the number make the whole, and a turn takes one bit.
-use mathlib.Core.Logic.{⊎_elim}
 use mathlib.Core.Path.{◌≡◌}
 use Prim.Native.Nat.{ℕ, ◌+◌, ◌*◌, ◌/◌, ◌^◌, ◌<◌}
 use native.Mathlib.Omega.{arith}
-use lib.Dec.{ltb}
 use lib.Pow.{pow_mono}
-use borrow.Author.Rules.{rules}
 use Rattle.mixes.specs.Inner.{number_in, laid_in}
 use Rattle.mixes.proofs.Binary.{byte_lt, last_not}
 use Rattle.mixes.proofs.Gathered.{scattered_lt}
-use Rattle.mixes.proofs.Halves.{Halving, halving_start, halve_one, halve_none, halve_passed, place_le, half_le, halved}
+use Rattle.mixes.proofs.Halves.{halving_start, halve_one, halve_none, halve_passed, place_le, half_le, halved}
 use Rattle.mixes.proofs.arithmetic.average.Goals as goal
 use Rattle.mixes.proofs.arithmetic.average.Goals.{After-loop-enabled, Start, then-enabled-eq1+then-rest-eq1, then-enabled-eq1+else-rest-eq1, else-enabled-eq1}
 
@@ -46,9 +43,9 @@ loop-enabled-preserved c =
     let loop = c.loop-enabled in
     let more = c.loop-enabled-test.true in
     elim c.if-enabled-eq1.branch [
-      then-enabled-eq1+then-rest-eq1 w ↦ rw (w.below-is, w.half-is) (halve_one loop.invariant more w.if-enabled-eq1.true w.if-rest-eq1.true)
-    | then-enabled-eq1+else-rest-eq1 w ↦ rw (w.below-is, w.half-is) (halve_none loop.invariant more w.if-enabled-eq1.true (last_not _ w.if-rest-eq1.false))
-    | else-enabled-eq1 w ↦ rw (w.below-is, w.half-is) (halve_passed loop.invariant more (last_not _ w.if-enabled-eq1.false))
+      | then-enabled-eq1+then-rest-eq1 w ↦ rw (w.below-is, w.half-is) (halve_one loop.invariant more w.if-enabled-eq1.true w.if-rest-eq1.true)
+      | then-enabled-eq1+else-rest-eq1 w ↦ rw (w.below-is, w.half-is) (halve_none loop.invariant more w.if-enabled-eq1.true (last_not _ w.if-rest-eq1.false))
+      | else-enabled-eq1 w ↦ rw (w.below-is, w.half-is) (halve_passed loop.invariant more (last_not _ w.if-enabled-eq1.false))
     ]
 
 pub overflow_mul-result : goal.overflow_mul-result

@@ -2,7 +2,6 @@
 use mathlib.Core.Path.{◌≡◌, ◌∙◌, ap}
 use Prim.Native.Nat.{ℕ, min}
 use lib.Bits.{bit_and}
-use borrow.Author.Rules.{rules}
 use Rattle.mixes.proofs.ArithmeticMixes.{held}
 use Rattle.mixes.proofs.arithmetic.held_sum.Goals as goal
 use Rattle.mixes.proofs.arithmetic.held_sum.Goals.{After-lesser}

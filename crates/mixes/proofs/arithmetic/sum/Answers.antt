@@ -2,7 +2,6 @@
 use lib.Bits.{and_le_r}
 use lib.Pow.{pow_mono}
 use native.Mathlib.Omega.{arith}
-use borrow.Author.Rules.{rules}
 use Rattle.mixes.proofs.Sums.{sum_stands, sum_lt}
 use Rattle.mixes.proofs.arithmetic.sum.Goals as goal
 

@@ -1,5 +1,4 @@
 -- `holds` is the definition: condition 4 is true of nothing.
-use borrow.Author.Rules.{rules}
 use Rattle.mixes.specs.Conditions.{holds_of, condition_holds}
 use Rattle.mixes.proofs.conditions.holds.Goals as goal
 

@@ -4,7 +4,6 @@ use lib.Bits.{bit_xor}
 use Rattle.mixes.specs.declared.logical.Blend.{Blend}
 use Rattle.mixes.specs.Inner.{blended}
 use Rattle.mixes.proofs.Blends.{blend_of, blend_mixed}
-use borrow.Author.Rules.{rules}
 use Rattle.mixes.proofs.logical.blend_of.Goals as goal
 
 pub returns : goal.returns

@@ -1,5 +1,4 @@
 -- `is_inside` is the definition at each kind of drawing.
-use borrow.Author.Rules.{rules}
 use Rattle.parts.specs.Drawings.{inside_of}
 use Rattle.parts.proofs.drawing.is_inside.Goals as goal
 

@@ -2,7 +2,6 @@
 use mathlib.Core.Path.{sym, ◌∙◌}
 use Rattle.parts.specs.Latches.{colours_latched}
 use Rattle.parts.proofs.LatchLaws.{colours_untouched}
-use borrow.Author.Rules.{rules}
 use Rattle.parts.proofs.latches.latch_colours.Goals as goal
 
 pub returns-then-touches : goal.returns-then-touches

@@ -1,5 +1,4 @@
 -- `latch_compare` is the condition and the value after the write: each field is its register's.
-use borrow.Author.Rules.{rules}
 use Rattle.parts.specs.Latches.{compare_latched}
 use Rattle.parts.proofs.latches.latch_compare.Goals as goal
 

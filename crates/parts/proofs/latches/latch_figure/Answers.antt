@@ -1,6 +1,5 @@
 -- `latch_figure` is the figure after the write: each field is its registers'.
 use Rattle.parts.specs.Latches.{figure_latched}
-use borrow.Author.Rules.{rules}
 use Rattle.parts.proofs.latches.latch_figure.Goals as goal
 
 pub returns : goal.returns

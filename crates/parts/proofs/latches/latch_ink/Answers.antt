@@ -1,5 +1,4 @@
 -- `latch_ink` is the mix and the colour after the write: each field is its register's.
-use borrow.Author.Rules.{rules}
 use Rattle.parts.specs.Latches.{ink_latched}
 use Rattle.parts.proofs.latches.latch_ink.Goals as goal
 

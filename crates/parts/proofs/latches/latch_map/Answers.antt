@@ -2,7 +2,6 @@
 use mathlib.Core.Path.{sym, ◌∙◌}
 use Rattle.parts.specs.Latches.{map_latched}
 use Rattle.parts.proofs.LatchLaws.{map_untouched}
-use borrow.Author.Rules.{rules}
 use Rattle.parts.proofs.latches.latch_map.Goals as goal
 
 pub returns-then-touches : goal.returns-then-touches

@@ -1,5 +1,4 @@
 -- `latch_point` is the two numbers after the write: each field is its register's.
-use borrow.Author.Rules.{rules}
 use Rattle.parts.specs.Latches.{point_latched}
 use Rattle.parts.proofs.latches.latch_point.Goals as goal
 

@@ -2,7 +2,6 @@
 use mathlib.Core.Path.{sym, ◌∙◌}
 use Rattle.parts.specs.Latches.{pointers_latched}
 use Rattle.parts.proofs.LatchLaws.{pointers_untouched}
-use borrow.Author.Rules.{rules}
 use Rattle.parts.proofs.latches.latch_pointers.Goals as goal
 
 pub returns-then-touches : goal.returns-then-touches

@@ -1,6 +1,5 @@
 -- `latch_registers` is the registers after the write, group by group.
 use Rattle.parts.specs.Latches.{registers_latched}
-use borrow.Author.Rules.{rules}
 use Rattle.parts.proofs.latches.latch_registers.Goals as goal
 
 pub returns : goal.returns

@@ -1,6 +1,5 @@
 -- `figure_is_reduced` is the definition: one test for each pair.
 use Rattle.parts.specs.Reduced.{figure_reduced}
-use borrow.Author.Rules.{rules}
 use Rattle.parts.proofs.reduced.figure_is_reduced.Goals as goal
 
 pub returns : goal.returns

@@ -1,6 +1,5 @@
 -- `pointers_are_reduced` is the definition: one test for each pointer.
 use Rattle.parts.specs.Reduced.{pointers_reduced}
-use borrow.Author.Rules.{rules}
 use Rattle.parts.proofs.reduced.pointers_are_reduced.Goals as goal
 
 pub returns : goal.returns

@@ -1,6 +1,5 @@
 -- `registers_are_reduced` is the definition: one test for each group.
 use Rattle.parts.specs.Reduced.{registers_reduced}
-use borrow.Author.Rules.{rules}
 use Rattle.parts.proofs.reduced.registers_are_reduced.Goals as goal
 
 pub returns : goal.returns

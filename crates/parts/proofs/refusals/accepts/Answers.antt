@@ -1,5 +1,4 @@
 -- `accepts` is the definition: 0 is the number of what is accepted and of nothing else.
-use borrow.Author.Rules.{rules}
 use Rattle.parts.proofs.RefusalLaws.{number_accepted}
 use Rattle.parts.proofs.refusals.accepts.Goals as goal
 

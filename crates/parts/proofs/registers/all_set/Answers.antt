@@ -2,7 +2,6 @@
 use native.Mathlib.Omega.{arith}
 use lib.Bits.{and_mask}
 use lib.Pow.{pow_pos}
-use borrow.Author.Rules.{rules}
 use Rattle.numbers.proofs.Fields.{one_shl}
 use Rattle.parts.proofs.registers.all_set.Goals as goal
 

@@ -2,7 +2,6 @@
 use mathlib.Core.Path.{refl, ◌∙◌}
 use Prim.Native.Nat.{◌-◌}
 use native.Mathlib.Omega.{arith}
-use borrow.Author.Rules.{rules}
 use Rattle.parts.specs.Registers.{selected, others, registers, among, listed}
 use Rattle.parts.proofs.Every.{every}
 use Rattle.parts.proofs.RegisterLaws.{agrees, half_listed}

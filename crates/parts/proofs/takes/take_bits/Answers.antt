@@ -1,6 +1,5 @@
 -- `take_bits` chooses as the definition does, between the low bits of the latched byte and the stored one.
 use mathlib.Core.Path.{sym, ◌∙◌}
-use borrow.Author.Rules.{rules}
 use Rattle.parts.specs.Takes.{taken}
 use Rattle.parts.proofs.takes.take_bits.Goals as goal
 

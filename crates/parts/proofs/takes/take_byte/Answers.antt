@@ -1,6 +1,5 @@
 -- `take_byte` chooses as the definition does: its test is `touched`, and its byte is the latched one.
 use mathlib.Core.Path.{sym, ◌∙◌}
-use borrow.Author.Rules.{rules}
 use Rattle.parts.specs.Takes.{taken}
 use Rattle.parts.proofs.takes.take_byte.Goals as goal
 

@@ -2,7 +2,6 @@
 use mathlib.Core.Path.{sym, ◌∙◌}
 use mir.Syntax.{w16}
 use mir.ValLaws.{to_z-of_z}
-use borrow.Author.Rules.{rules}
 use Rattle.parts.specs.Takes.{taken_onto}
 use Rattle.parts.proofs.takes.take_destination.Goals as goal
 

@@ -1,6 +1,5 @@
 -- `take_twelve_bits` chooses as the definition does, between the low bits of the latched bytes and the stored ones.
 use mathlib.Core.Path.{sym, ◌∙◌}
-use borrow.Author.Rules.{rules}
 use Rattle.parts.specs.Takes.{taken}
 use Rattle.parts.proofs.takes.take_twelve_bits.Goals as goal
 

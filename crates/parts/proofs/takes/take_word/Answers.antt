@@ -1,6 +1,5 @@
 -- `take_word` chooses as the definition does: its test is `touched`, and its bytes are the latched ones.
 use mathlib.Core.Path.{sym, ◌∙◌}
-use borrow.Author.Rules.{rules}
 use Rattle.parts.specs.Takes.{taken}
 use Rattle.parts.proofs.takes.take_word.Goals as goal
 

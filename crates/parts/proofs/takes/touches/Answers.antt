@@ -1,6 +1,5 @@
 -- `touches` is the definition: its two tests are the two halves of `touched`.
 use borrow.Author.Tests.{lt-ltb, le-ltb}
-use borrow.Author.Rules.{rules}
 use Rattle.parts.specs.Takes.{touched}
 use Rattle.parts.proofs.takes.touches.Goals as goal
 

@@ -1,5 +1,4 @@
 -- `code_at` is the byte of the register after those that the write left out.
-use borrow.Author.Rules.{rules}
 use Rattle.rules.specs.Codes.{code_at}
 use Rattle.rules.proofs.codes.code_at.Goals as goal
 

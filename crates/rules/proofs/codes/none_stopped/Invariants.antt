@@ -1,12 +1,8 @@
 -- `none_stopped` passes the codes one by one: none of those passed is 00, and a 00 among the first n stops.
-use mathlib.Core.Path.{◌≡◌, refl, sym, ap, ◌∙◌}
+use mathlib.Core.Path.{◌≡◌}
 use mathlib.Core.Bool.{true}
-use Prim.Native.Nat.{◌-◌, ◌≤◌, zero-le}
-use native.Mathlib.Numerals.{add-one}
-use native.Mathlib.Omega.{arith}
-use borrow.Author.Rules.{rules}
-use Rattle.rules.specs.Codes.{stops, code_at, none_stopped}
-use Rattle.rules.proofs.CodeLaws.{none_stopped_next, code_stopping}
+use Prim.Native.Nat.{◌-◌, ◌≤◌}
+use Rattle.rules.specs.Codes.{none_stopped}
 use Rattle.rules.proofs.codes.none_stopped.Given as goal
 
 abbrev pub invariant-loop-i : goal.invariant-loop-i

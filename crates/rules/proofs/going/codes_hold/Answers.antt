@@ -1,7 +1,6 @@
 -- `codes_hold` is the definition's five tests of codes: none up to the current one is 00 where none before it is, nor it.
 use Rattle.rules.specs.Codes.{none_stopped}
 use Rattle.rules.specs.Going.{counters_hold}
-use borrow.Author.Rules.{rules}
 use Rattle.rules.proofs.going.codes_hold.Goals as goal
 
 pub returns : goal.returns

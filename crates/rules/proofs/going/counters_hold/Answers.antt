@@ -1,6 +1,5 @@
 -- `counters_hold` tests the counters and the bit of each kind of drawing as the definition does.
 use Rattle.rules.specs.Going.{counters_hold}
-use borrow.Author.Rules.{rules}
 use Rattle.rules.proofs.going.counters_hold.Goals as goal
 
 pub returns-in-Nothing : goal.returns-in-Nothing

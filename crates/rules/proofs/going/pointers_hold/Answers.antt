@@ -1,6 +1,5 @@
 -- `pointers_hold` asks for both pointers whether they lie in the maps that they use.
 use Rattle.rules.specs.Going.{pointers_hold}
-use borrow.Author.Rules.{rules}
 use Rattle.rules.proofs.going.pointers_hold.Goals as goal
 
 pub returns : goal.returns

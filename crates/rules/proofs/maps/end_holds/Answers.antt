@@ -1,6 +1,5 @@
 -- `end_holds` is the test of the definition: base and bytes are far below the end of 64 bits.
 use native.Mathlib.Omega.{arith}
-use borrow.Author.Rules.{rules}
 use Rattle.rules.specs.Maps.{end_holds}
 use Rattle.rules.proofs.MapLaws.{needed_le}
 use Rattle.rules.proofs.maps.end_holds.Goals as goal

@@ -1,5 +1,4 @@
 -- `is_one_bit` asks the format for its bits.
-use borrow.Author.Rules.{rules}
 use Rattle.rules.specs.Maps.{is_one_bit}
 use Rattle.rules.proofs.maps.is_one_bit.Goals as goal
 

@@ -1,6 +1,5 @@
 -- `map_at` reads the list at the field's remainder, which is within its four maps.
 use mathlib.Core.Path.{refl}
-use borrow.Author.Rules.{rules}
 use Rattle.rules.specs.Maps.{map_at}
 use Rattle.rules.proofs.maps.map_at.Goals as goal
 

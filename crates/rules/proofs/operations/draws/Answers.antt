@@ -1,5 +1,4 @@
 -- `draws` is any of the three kinds, each by its own function.
-use borrow.Author.Rules.{rules}
 use Rattle.rules.specs.Operations.{draws}
 use Rattle.rules.proofs.operations.draws.Goals as goal
 

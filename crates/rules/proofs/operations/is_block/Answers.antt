@@ -1,5 +1,4 @@
 -- `is_block` tests the function field as the definition does.
-use borrow.Author.Rules.{rules}
 use Rattle.rules.specs.Operations.{is_fill, is_block}
 use Rattle.rules.proofs.operations.is_block.Goals as goal
 

@@ -1,5 +1,4 @@
 -- `is_codes` tests the function field as the definition does.
-use borrow.Author.Rules.{rules}
 use Rattle.rules.specs.Operations.{is_codes}
 use Rattle.rules.proofs.operations.is_codes.Goals as goal
 

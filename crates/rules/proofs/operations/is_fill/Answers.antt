@@ -1,6 +1,5 @@
 -- `is_fill` tests the function field as the definition does.
 use Rattle.rules.specs.Operations.{is_fill}
-use borrow.Author.Rules.{rules}
 use Rattle.rules.proofs.operations.is_fill.Goals as goal
 
 pub returns : goal.returns

@@ -1,5 +1,4 @@
 -- `is_line` tests the function field as the definition does.
-use borrow.Author.Rules.{rules}
 use Rattle.rules.specs.Operations.{is_line}
 use Rattle.rules.proofs.operations.is_line.Goals as goal
 

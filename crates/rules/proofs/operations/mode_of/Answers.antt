@@ -1,7 +1,6 @@
 -- `mode_of` is the field, but 0 for a block.
 use mathlib.Core.Path.{sym, ◌∙◌}
 use Rattle.rules.specs.Operations.{mode_of}
-use borrow.Author.Rules.{rules}
 use Rattle.rules.proofs.operations.mode_of.Goals as goal
 
 pub returns-then-is_block : goal.returns-then-is_block

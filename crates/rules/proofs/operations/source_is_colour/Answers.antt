@@ -1,5 +1,4 @@
 -- `source_is_colour` tests the two source fields as the definition does.
-use borrow.Author.Rules.{rules}
 use Rattle.rules.specs.Operations.{source_is_colour}
 use Rattle.rules.proofs.operations.source_is_colour.Goals as goal
 

@@ -1,5 +1,4 @@
 -- `uses_mask` tests the mask field as the definition does.
-use borrow.Author.Rules.{rules}
 use Rattle.rules.specs.Operations.{uses_mask}
 use Rattle.rules.proofs.operations.uses_mask.Goals as goal
 

@@ -1,5 +1,4 @@
 -- `uses_pattern` asks of the pattern field whether it names a map.
-use borrow.Author.Rules.{rules}
 use Rattle.rules.specs.Operations.{uses_pattern}
 use Rattle.rules.proofs.operations.uses_pattern.Goals as goal
 

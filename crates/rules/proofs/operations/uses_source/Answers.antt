@@ -1,5 +1,4 @@
 -- `uses_source` is a colour from the source or a pattern of 9, as in the definition.
-use borrow.Author.Rules.{rules}
 use Rattle.rules.specs.Operations.{uses_source}
 use Rattle.rules.proofs.operations.uses_source.Goals as goal
 

@@ -1,5 +1,4 @@
 -- `ends_hold` asks the four uses of a map in the definition's order.
-use borrow.Author.Rules.{rules}
 use Rattle.rules.specs.Rules.{used_maps, ends_hold}
 use Rattle.rules.proofs.rules.ends_hold.Goals as goal
 

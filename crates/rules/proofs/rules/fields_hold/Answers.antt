@@ -1,6 +1,5 @@
 -- `fields_hold` is the definition's seven tests in their order, each by the function that decodes its field.
 use Rattle.rules.specs.Rules.{fields_hold}
-use borrow.Author.Rules.{rules}
 use Rattle.rules.proofs.rules.fields_hold.Goals as goal
 
 pub returns : goal.returns

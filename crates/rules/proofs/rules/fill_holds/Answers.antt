@@ -1,6 +1,5 @@
 -- `fill_holds` is the two tests of the definition.
 use Rattle.rules.specs.Rules.{fill_holds}
-use borrow.Author.Rules.{rules}
 use Rattle.rules.proofs.rules.fill_holds.Goals as goal
 
 pub returns : goal.returns

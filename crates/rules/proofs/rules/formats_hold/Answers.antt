@@ -1,5 +1,4 @@
 -- `formats_hold` is the definition's four tests in their order.
-use borrow.Author.Rules.{rules}
 use Rattle.rules.specs.Rules.{formats_hold}
 use Rattle.rules.proofs.rules.formats_hold.Goals as goal
 

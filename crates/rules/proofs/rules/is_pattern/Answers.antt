@@ -1,5 +1,4 @@
 -- `is_pattern` is the three tests of the definition.
-use borrow.Author.Rules.{rules}
 use Rattle.rules.specs.Rules.{is_pattern}
 use Rattle.rules.proofs.rules.is_pattern.Goals as goal
 

@@ -1,5 +1,4 @@
 -- `sizes_agree` compares the bits of the two maps that the fields name.
-use borrow.Author.Rules.{rules}
 use Rattle.rules.proofs.rules.sizes_agree.Goals as goal
 
 pub returns : goal.returns

@@ -1,6 +1,5 @@
 -- `start_refusal` gives the first refusal whose rule fails: each return has the tests before it held, and its own failed.
 use Rattle.rules.specs.Rules.{start_refusal}
-use borrow.Author.Rules.{rules}
 use Rattle.rules.proofs.rules.start_refusal.Goals as goal
 
 pub returns-then-not-fields_hold : goal.returns-then-not-fields_hold

@@ -1,5 +1,4 @@
 -- `used_formats_hold` asks the four uses of a map in the definition's order.
-use borrow.Author.Rules.{rules}
 use Rattle.rules.specs.Rules.{used_maps}
 use Rattle.rules.proofs.rules.used_formats_hold.Goals as goal
 

@@ -1,6 +1,5 @@
 -- `start_drawing` makes the definition's choices: each return has the tests that lead to it.
 use Rattle.rules.specs.Starts.{drawing_started}
-use borrow.Author.Rules.{rules}
 use Rattle.rules.proofs.starts.start_drawing.Goals as goal
 
 pub returns-then-is_line : goal.returns-then-is_line

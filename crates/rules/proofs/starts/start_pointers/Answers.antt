@@ -1,7 +1,5 @@
 -- `start_pointers` turns the source and the pattern pointer where they are used, each in its map.
-use mathlib.Core.Path.{◌∙◌}
 use Rattle.rules.specs.Starts.{pointers_started}
-use borrow.Author.Rules.{rules}
 use Rattle.rules.proofs.starts.start_pointers.Goals as goal
 
 pub returns : goal.returns

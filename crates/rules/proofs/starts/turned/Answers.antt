@@ -1,6 +1,5 @@
 -- `turned` is the two remainders by the map's size where the map is used, and the pointer as it is elsewhere.
 use Rattle.rules.specs.Starts.{turned}
-use borrow.Author.Rules.{rules}
 use Rattle.rules.proofs.starts.turned.Goals as goal
 
 pub returns-then-used : goal.returns-then-used
