@@ -1,5 +1,5 @@
 -- What the fields of an image mean, each read at its place.
-use Rattle.std.specs.Prelude.{ℕ, List, [], ◌∷◌, ℤ}
+use Rattle.std.specs.Prelude.{ℕ, List, [], ◌∷◌}
 use Rattle.std.specs.Int.{w16, w32}
 use Rattle.std.proofs.Common.{to_z}
 use Rattle.pixels.specs.declared.Map.{Map}

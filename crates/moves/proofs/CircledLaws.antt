@@ -4,7 +4,7 @@ use Prim.Native.Nat.{ℕ, zero, suc, ◌+◌, ◌≤◌, ◌<◌}
 use native.Mathlib.Omega.{arith}
 use lib.Dec.{eqb, lit<}
 use lib.IntN.{ℤ, pos, ◌+ℤ◌, ◌-ℤ◌}
-use Rattle.numbers.specs.Circles.{forth, back, residue, circle}
+use Rattle.numbers.specs.Circles.{forth, back, residue}
 use Rattle.numbers.proofs.Choices.{choose_either}
 use Rattle.numbers.proofs.CircleLaws.{residue_lt, residue_forth, residue_back, residue_circle, circle_cong, circle_circle}
 use Rattle.moves.specs.declared.Turn.{Turn}

@@ -14,9 +14,9 @@ use Rattle.rules.specs.Operations.{is_fill, is_block, mode_of, is_map, source_is
 use Rattle.rules.specs.Codes.{code_at}
 use Rattle.moves.specs.declared.Travel.{Travel}
 use Rattle.moves.specs.declared.Pen.{Pen}
-use Rattle.moves.specs.Turns.{opposite, turned_by, circled_by, point_stepped, spot_stepped}
+use Rattle.moves.specs.Turns.{turned_by, circled_by, point_stepped, spot_stepped}
 use Rattle.moves.specs.Decoded.{sign_of, straight_of, course_of}
-use Rattle.moves.specs.Steps.{line_step, code_step, goes_up}
+use Rattle.moves.specs.Steps.{line_step, code_step}
 use Rattle.moves.specs.Moves.{source_by, destination_by, pen_stepped, pen_with, pen_gone, line_error, rises, line_moved, code_passed, codes_moved}
 use Rattle.moves.specs.Moves.{column_passed, row_point, row_spot, row_passed, block_moved, moved_by, moved}
 use Rattle.moves.proofs.TurnLaws.{repeated}

@@ -1,6 +1,6 @@
 -- A safe position keeps within the memory, and so do all after it: a pixel of a map lies before the map's end, and no move takes a used pointer out of its map.
 use mathlib.Core.Path.{◌≡◌, refl, sym, ◌∙◌}
-use mathlib.Core.Bool.{Bool, true, false, not, ◌&&◌, ◌||◌, and-eq-true_iff, false≢true}
+use mathlib.Core.Bool.{Bool, true, false, ◌&&◌, ◌||◌, and-eq-true_iff, false≢true}
 use mathlib.Core.List.{List}
 use Prim.Native.Nat.{ℕ, ◌+◌, ◌≤◌, ◌<◌}
 use native.Mathlib.Omega.{arith}
@@ -21,7 +21,7 @@ use Rattle.moves.specs.Inner.{pointers_inside}
 use Rattle.moves.proofs.Kept.{source_in, pattern_in, pointers_moved}
 use Rattle.places.specs.declared.Flow.{Flow}
 use Rattle.places.specs.declared.Setup.{Setup}
-use Rattle.places.specs.Places.{is_within, on_map, mask_x, mask_y, in_mask}
+use Rattle.places.specs.Places.{is_within, mask_x, mask_y, in_mask}
 use Rattle.position.specs.Drawn.{source_pixel, inside_at, crossed}
 use Rattle.position.specs.Within.{reads_source, Within}
 use Rattle.position.specs.Inner.{pattern_read, source_read, Safe}

@@ -30,7 +30,6 @@ use Rattle.places.proofs.ModeLaws.{none_left}
 use Rattle.position.specs.declared.Blends.{Blends}
 use Rattle.position.specs.Drawn.{source_pixel, drawn}
 use Rattle.position.specs.Inner.{InkBlends, Safe}
-use Rattle.position.proofs.Plain.{foreground}
 use Rattle.position.proofs.Safety.{held_within, picked_reads}
 use Rattle.position.proofs.Writing.{on_map_lem}
 use Rattle.runs.specs.declared.plans.Plan.{Plan}

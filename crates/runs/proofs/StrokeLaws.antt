@@ -1,5 +1,5 @@
 -- A stroke that is inside: each position of it is painted, and its pixels are those of a trail, by induction on the steps.
-use Rattle.std.proofs.Common.{◌≡◌, ℕ, zero, suc, ◌+◌, ◌-◌, ◌/◌, ◌%◌, ◌^◌, ◌<◌, ◌≤◌, Bool, true, false, not, ◌&&◌, eqb, ltb, List, ℤ, pos, ◌+ℤ◌, sym, refl, ap, ◌∙◌, subst, le_trans, lt_of_le_of_lt, add-zero, add-one, arith, le-ltb, lt-ltb, ne_eqb}
+use Rattle.std.proofs.Common.{◌≡◌, ℕ, zero, suc, ◌+◌, ◌/◌, ◌%◌, ◌^◌, ◌<◌, ◌≤◌, Bool, true, false, ◌&&◌, eqb, ltb, List, ℤ, pos, ◌+ℤ◌, sym, refl, ap, ◌∙◌, subst, le_trans, lt_of_le_of_lt, add-zero, add-one, arith, le-ltb, lt-ltb, ne_eqb}
 use mathlib.Core.Bool.{false≢true}
 use native.Mathlib.Nat.{min-le_left, min-le_right}
 use borrow.Author.Tests.{not-true}

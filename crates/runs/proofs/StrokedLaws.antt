@@ -1,5 +1,5 @@
 -- What a drawing with strokes has, and a stroke of it: parts of one step, and small terms.
-use Rattle.std.proofs.Common.{◌≡◌, ℕ, ◌-◌, ◌<◌, Bool, true, false, not, ◌&&◌, ℤ, pos, refl, mod-lt, lit<, eqb-true}
+use Rattle.std.proofs.Common.{◌≡◌, ℕ, Bool, true, false, not, ◌&&◌, ℤ, pos, refl, mod-lt, lit<, eqb-true}
 use lib.Signed.{lt_z}
 use borrow.Author.Tests.{not-true}
 use Rattle.numbers.specs.Choose.{choose}

@@ -1,7 +1,6 @@
 -- `run` is that many positions: each turn adds those that it did, and a drawing in hand stays safe.
-use Rattle.std.proofs.Common.{◌≡◌, ◌+◌, ◌-◌, ◌<◌, ◌≤◌, true, ◌&&◌, ltb, length, sym, refl, ap, ◌∙◌, subst, zero-le, arith, rules, ltb-true}
+use Rattle.std.proofs.Common.{◌≡◌, ◌+◌, ◌<◌, ◌≤◌, true, ◌&&◌, ltb, length, sym, refl, ap, ◌∙◌, subst, zero-le, arith, ltb-true}
 use Rattle.numbers.proofs.Choices.{and_left, and_right}
-use Rattle.parts.specs.Drawings.{unfinished}
 use Rattle.moves.specs.declared.Pen.{Pen}
 use Rattle.position.specs.Inner.{Safe}
 use Rattle.runs.specs.Runs.{Run, begun, after}

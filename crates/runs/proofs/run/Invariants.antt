@@ -1,12 +1,8 @@
 -- `run` is that many positions: each turn adds those that it did, and a drawing in hand stays safe.
-use Rattle.std.proofs.Common.{◌≡◌, ◌+◌, ◌-◌, ◌<◌, ◌≤◌, true, ◌&&◌, ltb, length, sym, refl, ap, ◌∙◌, subst, zero-le, arith, rules, ltb-true}
-use Rattle.numbers.proofs.Choices.{and_left, and_right}
+use Rattle.std.proofs.Common.{◌≡◌, ◌-◌, ◌≤◌, true, length}
 use Rattle.parts.specs.Drawings.{unfinished}
-use Rattle.moves.specs.declared.Pen.{Pen}
 use Rattle.position.specs.Inner.{Safe}
-use Rattle.runs.specs.Runs.{Run, begun, after}
-use Rattle.runs.proofs.AfterLaws.{after_stop, parts}
-use Rattle.runs.proofs.RunLaws.{after_more, safe_after}
+use Rattle.runs.specs.Runs.{begun, after}
 use Rattle.runs.proofs.run.Given as goal
 
 abbrev pub invariant-loop-done : goal.invariant-loop-done

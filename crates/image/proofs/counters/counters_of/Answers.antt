@@ -1,6 +1,5 @@
 -- `counters_of` is the drawing's counters, case by case.
 use Rattle.image.specs.Counters.{counters_of}
-use borrow.Author.Rules.{rules}
 use Rattle.image.proofs.counters.counters_of.Goals as goal
 
 pub returns-then-stopped : goal.returns-then-stopped

@@ -2,7 +2,6 @@
 use mathlib.Core.Path.{sym, ◌∙◌}
 use borrow.Author.Tests.{eq-eqb, ne_eqb}
 use Rattle.image.specs.Counters.{drawing_of}
-use borrow.Author.Rules.{rules}
 use Rattle.image.proofs.counters.drawing_of.Goals as goal
 
 pub returns-then-k-eq0 : goal.returns-then-k-eq0

@@ -1,6 +1,5 @@
 -- `lay` lays the image: the head, the maps and the registers follow each other and fill the buffer.
 use Rattle.image.proofs.LayLaws.{lay_fields}
-use borrow.Author.Rules.{rules}
 use Rattle.image.proofs.laying.lay.Goals as goal
 
 pub returns : goal.returns

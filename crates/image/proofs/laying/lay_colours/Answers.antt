@@ -1,7 +1,6 @@
 -- `lay_colours` lays five fields: its stores follow each other from byte 71 on.
 use Rattle.numbers.specs.Bytes.{le}
 use Rattle.image.specs.Inner.{colour_bytes}
-use borrow.Author.Rules.{rules}
 use Rattle.image.proofs.laying.lay_colours.Goals as goal
 
 pub returns : goal.returns

@@ -1,7 +1,6 @@
 -- `lay_counters` lays the four counters: its stores follow each other from byte 9 on.
 use Rattle.numbers.specs.Bytes.{le}
 use Rattle.image.specs.Fields.{laid, counter_fields}
-use borrow.Author.Rules.{rules}
 use Rattle.image.proofs.laying.lay_counters.Goals as goal
 
 pub returns : goal.returns

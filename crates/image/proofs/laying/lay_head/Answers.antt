@@ -1,7 +1,6 @@
 -- `lay_head` lays the fields before the maps: its stores follow each other from byte 0 on.
 use Rattle.numbers.specs.Bytes.{le}
 use Rattle.image.specs.Fields.{laid, counter_fields, head_fields}
-use borrow.Author.Rules.{rules}
 use Rattle.image.proofs.laying.lay_head.Goals as goal
 
 pub returns : goal.returns

@@ -1,7 +1,6 @@
 -- `lay_lower` lays five parts: they follow each other from byte 52 on.
 use Rattle.numbers.specs.Bytes.{le}
 use Rattle.image.specs.Inner.{term_bytes, mix_bytes, colour_bytes, point_bytes, low_bytes}
-use borrow.Author.Rules.{rules}
 use Rattle.image.proofs.laying.lay_lower.Goals as goal
 
 pub returns : goal.returns

@@ -1,6 +1,5 @@
 -- `lay_map` lays the map's fields: its stores follow each other from the offset on.
 use Rattle.image.proofs.LayLaws.{lay_map}
-use borrow.Author.Rules.{rules}
 use Rattle.image.proofs.laying.lay_map.Goals as goal
 
 pub returns : goal.returns

@@ -1,7 +1,6 @@
 -- `lay_maps` lays the four maps: each is as long as the next begins after it.
 use Rattle.rules.specs.Maps.{map_at}
 use Rattle.image.proofs.LayLaws.{lay_maps}
-use borrow.Author.Rules.{rules}
 use Rattle.image.proofs.laying.lay_maps.Goals as goal
 
 pub returns : goal.returns

@@ -1,7 +1,6 @@
 -- `lay_mixes` lays three bytes: its stores follow each other from byte 68 on.
 use Rattle.numbers.specs.Bytes.{le}
 use Rattle.image.specs.Inner.{mix_bytes}
-use borrow.Author.Rules.{rules}
 use Rattle.image.proofs.laying.lay_mixes.Goals as goal
 
 pub returns : goal.returns

@@ -1,5 +1,4 @@
 -- `lay_point` lays the word whose bytes are the pair's.
-use borrow.Author.Rules.{rules}
 use Rattle.image.proofs.laying.lay_point.Goals as goal
 
 pub returns : goal.returns

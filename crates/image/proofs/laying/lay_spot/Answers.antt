@@ -1,5 +1,4 @@
 -- `lay_spot` lays the word whose bytes are the pointer's.
-use borrow.Author.Rules.{rules}
 use Rattle.image.proofs.laying.lay_spot.Goals as goal
 
 pub returns : goal.returns

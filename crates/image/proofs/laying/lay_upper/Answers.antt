@@ -1,7 +1,6 @@
 -- `lay_upper` lays five fields: they follow each other from byte 95 on.
 use Rattle.numbers.specs.Bytes.{le}
 use Rattle.image.specs.Inner.{point_bytes, spot_bytes, high_bytes}
-use borrow.Author.Rules.{rules}
 use Rattle.image.proofs.laying.lay_upper.Goals as goal
 
 pub returns : goal.returns

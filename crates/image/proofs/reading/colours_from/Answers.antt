@@ -1,6 +1,5 @@
 -- `colours_from` is mixes, colours, comparison and masks, number by number.
 use Rattle.image.specs.Read.{ink_from, colours_from}
-use borrow.Author.Rules.{rules}
 use Rattle.image.proofs.reading.colours_from.Goals as goal
 
 pub returns : goal.returns

@@ -1,6 +1,5 @@
 -- `counters_from` is bytes 9 to 14, number by number.
 use Rattle.image.specs.Read.{counters_from}
-use borrow.Author.Rules.{rules}
 use Rattle.image.proofs.reading.counters_from.Goals as goal
 
 pub returns : goal.returns

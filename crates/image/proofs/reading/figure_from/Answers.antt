@@ -1,6 +1,5 @@
 -- `figure_from` is operations, steps, dimensions and origin, one by one.
 use Rattle.image.specs.Read.{point_from, figure_from}
-use borrow.Author.Rules.{rules}
 use Rattle.image.proofs.reading.figure_from.Goals as goal
 
 pub returns : goal.returns

@@ -2,7 +2,6 @@
 use native.Mathlib.Omega.{arith}
 use Rattle.numbers.proofs.BytePartLaws.{number_lt}
 use Rattle.image.specs.Layout.{at}
-use borrow.Author.Rules.{rules}
 use Rattle.image.proofs.reading.half_at.Goals as goal
 
 pub overflow_cast-result : goal.overflow_cast-result

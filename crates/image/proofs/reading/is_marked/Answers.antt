@@ -1,6 +1,5 @@
 -- `is_marked` compares the mark and the version with theirs.
 use Rattle.image.specs.Layout.{at}
-use borrow.Author.Rules.{rules}
 use Rattle.image.proofs.reading.is_marked.Goals as goal
 
 pub returns : goal.returns

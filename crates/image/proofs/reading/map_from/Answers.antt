@@ -1,5 +1,4 @@
 -- `map_from` is the map of nine bytes, field by field.
-use borrow.Author.Rules.{rules}
 use Rattle.image.proofs.reading.map_from.Goals as goal
 
 pub returns : goal.returns

@@ -1,7 +1,6 @@
 -- `maps_from` is the four maps, one by one.
 use mathlib.Core.List.{[], ◌∷◌}
 use Rattle.image.specs.Read.{map_from, maps_from}
-use borrow.Author.Rules.{rules}
 use Rattle.image.proofs.reading.maps_from.Goals as goal
 
 pub returns : goal.returns

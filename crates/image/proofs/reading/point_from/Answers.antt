@@ -1,5 +1,4 @@
 -- `point_from` is the pair of four bytes, number by number.
-use borrow.Author.Rules.{rules}
 use Rattle.image.proofs.reading.point_from.Goals as goal
 
 pub returns : goal.returns

@@ -1,6 +1,5 @@
 -- `pointers_from` is the three pointers, one by one.
 use Rattle.image.specs.Read.{point_from, pointers_from}
-use borrow.Author.Rules.{rules}
 use Rattle.image.proofs.reading.pointers_from.Goals as goal
 
 pub returns : goal.returns

@@ -1,6 +1,5 @@
 -- `registers_from` is the registers, group by group.
 use Rattle.image.specs.Read.{registers_from}
-use borrow.Author.Rules.{rules}
 use Rattle.image.proofs.reading.registers_from.Goals as goal
 
 pub returns : goal.returns

@@ -2,7 +2,6 @@
 use mir.Syntax.{w32}
 use Rattle.numbers.proofs.SignedBytes.{signed_field}
 use Rattle.image.specs.Read.{terms_from}
-use borrow.Author.Rules.{rules}
 use Rattle.image.proofs.reading.terms_from.Goals as goal
 
 pub returns : goal.returns

@@ -1,6 +1,5 @@
 -- `word_at` is the number of four bytes, as `fetch` reads it.
 use Rattle.image.specs.Layout.{at}
-use borrow.Author.Rules.{rules}
 use Rattle.image.proofs.reading.word_at.Goals as goal
 
 pub returns : goal.returns

@@ -3,7 +3,6 @@ use native.Mathlib.Omega.{arith}
 use lib.Dec.{lit<}
 use Rattle.numbers.specs.Bytes.{le}
 use Rattle.image.proofs.WordLaws.{digits}
-use borrow.Author.Rules.{rules}
 use Rattle.image.proofs.words.format_word.Goals as goal
 
 pub returns : goal.returns

@@ -4,7 +4,6 @@ use lib.Dec.{lit<}
 use Rattle.numbers.specs.Bytes.{le}
 use Rattle.image.specs.Inner.{mix_bytes}
 use Rattle.image.proofs.WordLaws.{digits}
-use borrow.Author.Rules.{rules}
 use Rattle.image.proofs.words.mixes_word.Goals as goal
 
 pub returns : goal.returns

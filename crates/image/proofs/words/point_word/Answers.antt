@@ -2,7 +2,6 @@
 use native.Mathlib.Omega.{arith}
 use Rattle.image.specs.Inner.{point_bytes}
 use Rattle.image.proofs.WordLaws.{halves}
-use borrow.Author.Rules.{rules}
 use Rattle.image.proofs.words.point_word.Goals as goal
 
 pub returns : goal.returns

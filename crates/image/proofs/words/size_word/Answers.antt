@@ -1,7 +1,6 @@
 -- `size_word` has the two bytes of width and height, one after the other.
 use native.Mathlib.Omega.{arith}
 use Rattle.image.proofs.WordLaws.{halves}
-use borrow.Author.Rules.{rules}
 use Rattle.image.proofs.words.size_word.Goals as goal
 
 pub returns : goal.returns

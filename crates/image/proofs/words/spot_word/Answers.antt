@@ -2,8 +2,6 @@
 use Prim.Native.Nat.{◌^◌}
 use lib.Dec.{lit<}
 use Rattle.numbers.proofs.CircleLaws.{residue_lt}
-use mathlib.Core.Path.{◌∙◌}
-use native.Mathlib.Omega.{arith}
 use mir.Syntax.{w16}
 use mir.ValLaws.{to_z-of_z}
 use Rattle.image.specs.Inner.{spot_bytes}

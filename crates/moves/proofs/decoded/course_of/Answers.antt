@@ -1,6 +1,5 @@
 -- `course_of` is the definition, field by field: each call gives its field.
 use Rattle.moves.specs.Decoded.{course_of}
-use borrow.Author.Rules.{rules}
 use Rattle.moves.proofs.decoded.course_of.Goals as goal
 
 pub returns : goal.returns

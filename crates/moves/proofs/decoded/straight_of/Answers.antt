@@ -1,6 +1,5 @@
 -- `straight_of` is the definition's choice, by the major axis.
 use Rattle.moves.specs.Decoded.{straight_of}
-use borrow.Author.Rules.{rules}
 use borrow.Author.Tests.{ne_eqb}
 use Rattle.moves.proofs.decoded.straight_of.Goals as goal
 

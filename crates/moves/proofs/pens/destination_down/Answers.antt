@@ -1,5 +1,4 @@
 -- `destination_down` is the definition's choice, by whether the block inverts.
-use borrow.Author.Rules.{rules}
 use Rattle.moves.proofs.pens.destination_down.Goals as goal
 
 pub returns-then-course : goal.returns-then-course

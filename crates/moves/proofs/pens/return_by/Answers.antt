@@ -1,7 +1,6 @@
 -- `return_by` steps back by the row's length on the circle, as the definition does.
 use mir.Syntax.{w16}
 use mir.ValLaws.{to_z-of_z}
-use borrow.Author.Rules.{rules}
 use Rattle.moves.proofs.pens.return_by.Goals as goal
 
 pub returns : goal.returns

@@ -1,5 +1,4 @@
 -- `return_used` is the definition's choice, by the flag.
-use borrow.Author.Rules.{rules}
 use Rattle.moves.proofs.pens.return_used.Goals as goal
 
 pub turn_by-requires : goal.turn_by-requires

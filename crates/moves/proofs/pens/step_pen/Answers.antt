@@ -5,7 +5,6 @@ use mir.Syntax.{w32}
 use mir.ValLaws.{to_z-of_z}
 use Rattle.moves.specs.Moves.{pen_stepped}
 use Rattle.moves.specs.Inner.{destination_stepped}
-use borrow.Author.Rules.{rules}
 use Rattle.moves.proofs.pens.step_pen.Goals as goal
 
 neither : (t u : Bool) → (t || u) ≡ false → (t ≡ false) × (u ≡ false)

@@ -1,5 +1,4 @@
 -- `turn_used_by` is the definition's choice, by the flag.
-use borrow.Author.Rules.{rules}
 use Rattle.moves.proofs.pens.turn_used_by.Goals as goal
 
 pub turn_by-requires : goal.turn_by-requires

@@ -1,7 +1,6 @@
 -- `code_step` is the definition's step: its two turns are those of the direction, which eight cases show once.
 use mathlib.Core.Path.{sym}
 use native.Mathlib.Omega.{arith}
-use borrow.Author.Rules.{rules}
 use Rattle.moves.proofs.Directions.{code_step_lem}
 use Rattle.moves.proofs.steps.code_step.Goals as goal
 

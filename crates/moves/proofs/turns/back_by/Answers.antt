@@ -1,7 +1,6 @@
 -- `back_by` is that many steps back: a difference that stays in the map is its own remainder.
 use mathlib.Core.Path.{sym}
 use native.Mathlib.Omega.{arith}
-use borrow.Author.Rules.{rules}
 use Rattle.moves.proofs.TurnLaws.{back_inside}
 use Rattle.moves.proofs.turns.back_by.Goals as goal
 

@@ -1,7 +1,6 @@
 -- `circle_by` is the definition at each of the three turns, read off the machine's signed numbers.
 use mir.Syntax.{w16}
 use mir.ValLaws.{to_z-of_z}
-use borrow.Author.Rules.{rules}
 use Rattle.moves.specs.Turns.{circled_by}
 use Rattle.moves.proofs.turns.circle_by.Goals as goal
 

@@ -1,7 +1,6 @@
 -- `forth_by` is that many steps forth: a sum that stays in the map is its own remainder.
 use mathlib.Core.Path.{sym}
 use native.Mathlib.Omega.{arith}
-use borrow.Author.Rules.{rules}
 use Rattle.numbers.proofs.CircleLaws.{forth_inside}
 use Rattle.moves.proofs.turns.forth_by.Goals as goal
 

@@ -1,5 +1,4 @@
 -- `turn_by` is the definition at each of the three turns.
-use borrow.Author.Rules.{rules}
 use Rattle.moves.specs.Turns.{turned_by}
 use Rattle.moves.proofs.turns.turn_by.Goals as goal
 

@@ -1,5 +1,4 @@
 -- `turn_once` is a turn of one step, at each of the three turns.
-use borrow.Author.Rules.{rules}
 use Rattle.moves.specs.Turns.{turned_by}
 use Rattle.moves.proofs.turns.turn_once.Goals as goal
 

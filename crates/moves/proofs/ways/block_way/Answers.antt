@@ -3,7 +3,6 @@ use native.Mathlib.Omega.{arith}
 use borrow.Author.Tests.{lt-ltb, le-ltb}
 use Rattle.moves.specs.Moves.{block_moved}
 use Rattle.moves.specs.Inner.{went_by}
-use borrow.Author.Rules.{rules}
 use Rattle.moves.proofs.ways.block_way.Goals as goal
 
 pub overflow_add-result : goal.overflow_add-result

@@ -2,7 +2,6 @@
 use mathlib.Core.Path.{sym, ap, ◌∙◌}
 use borrow.Author.Tests.{lt-ltb, le-ltb}
 use Rattle.rules.specs.Codes.{stops}
-use borrow.Author.Rules.{rules}
 use Rattle.moves.specs.Moves.{code_passed}
 use Rattle.moves.proofs.ways.pass_code.Goals as goal
 

@@ -1,6 +1,5 @@
 -- `row_after` is the definition's choice, by whether a row follows.
 use borrow.Author.Tests.{lt-ltb, le-ltb}
-use borrow.Author.Rules.{rules}
 use Rattle.moves.proofs.ways.row_after.Goals as goal
 
 pub returns-then-row-last : goal.returns-then-row-last

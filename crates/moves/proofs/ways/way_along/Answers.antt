@@ -8,7 +8,6 @@ use Rattle.numbers.proofs.Choices.{choose_part}
 use Rattle.moves.specs.declared.Step.{Step}
 use Rattle.moves.specs.declared.Way.TheVariants.{Along}
 use Rattle.moves.specs.Moves.{right, source_by, destination_by}
-use borrow.Author.Rules.{rules}
 use Rattle.moves.proofs.ways.way_along.Goals as goal
 
 x-of : (t : Bool) (p q : Step) → choose t p.x q.x ≡ (choose t p q).x

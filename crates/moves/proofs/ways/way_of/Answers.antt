@@ -5,7 +5,6 @@ use Rattle.parts.specs.declared.drawing.Drawing.{Drawing}
 use Rattle.parts.specs.Drawings.{with_inside}
 use Rattle.moves.specs.Moves.{pen_stepped, pen_with, pen_gone, line_moved, codes_moved, column_passed, row_passed, block_moved, moved_by, moved}
 use Rattle.moves.specs.Inner.{went_by}
-use borrow.Author.Rules.{rules}
 use Rattle.moves.proofs.ways.way_of.Goals as goal
 use Rattle.moves.proofs.ways.way_of.Goals.{Start}
 

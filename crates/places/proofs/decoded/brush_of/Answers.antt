@@ -4,7 +4,6 @@ use mir.ValLaws.{to_z-of_z}
 use Rattle.pixels.proofs.Maps.{bits_le}
 use Rattle.rules.specs.Maps.{map_at}
 use Rattle.places.specs.Decoded.{brush_of}
-use borrow.Author.Rules.{rules}
 use Rattle.places.proofs.decoded.brush_of.Goals as goal
 
 pub depth_of-depth-requires : goal.depth_of-depth-requires

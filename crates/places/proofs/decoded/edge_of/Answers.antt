@@ -2,7 +2,6 @@
 use mathlib.Core.Path.{sym, ◌∙◌}
 use borrow.Author.Tests.{eq-eqb, ne_eqb}
 use Rattle.places.specs.Decoded.{edge_of}
-use borrow.Author.Rules.{rules}
 use Rattle.places.proofs.decoded.edge_of.Goals as goal
 
 pub returns-then-mode_of-eq3 : goal.returns-then-mode_of-eq3

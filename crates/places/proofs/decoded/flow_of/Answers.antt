@@ -2,7 +2,6 @@
 use native.Mathlib.Omega.{arith}
 use Rattle.rules.proofs.ModeLaws.{mode_lt}
 use Rattle.places.specs.Decoded.{flow_of}
-use borrow.Author.Rules.{rules}
 use Rattle.places.proofs.decoded.flow_of.Goals as goal
 
 pub overflow_cast-result : goal.overflow_cast-result

@@ -1,5 +1,4 @@
 -- `code_bounds` is the definition, by the code's step.
-use borrow.Author.Rules.{rules}
 use Rattle.places.proofs.modes.code_bounds.Goals as goal
 
 pub returns : goal.returns

@@ -1,5 +1,4 @@
 -- `code_in` is the definition at each kind of drawing.
-use borrow.Author.Rules.{rules}
 use Rattle.places.proofs.modes.code_in.Goals as goal
 
 pub returns-in-Codes : goal.returns-in-Codes

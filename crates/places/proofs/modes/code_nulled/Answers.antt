@@ -3,7 +3,6 @@ use mathlib.Core.Bool.{not}
 use mathlib.Core.Path.{sym, ap, ◌∙◌}
 use Rattle.places.specs.Places.{is_first, is_last, on_boundary, nulled_by}
 use Rattle.places.proofs.ModeLaws.{first_null, last_null, boundary_null, no_null}
-use borrow.Author.Rules.{rules}
 use Rattle.places.proofs.modes.code_nulled.Goals as goal
 
 pub returns-in-1 : goal.returns-in-1

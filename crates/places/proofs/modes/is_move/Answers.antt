@@ -1,5 +1,4 @@
 -- `is_move` is the definition, of whether codes are drawn.
-use borrow.Author.Rules.{rules}
 use Rattle.places.proofs.modes.is_move.Goals as goal
 
 pub returns : goal.returns

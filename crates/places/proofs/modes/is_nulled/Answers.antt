@@ -4,9 +4,7 @@ use lib.Dec.{eqb}
 use mir.Syntax.{w32}
 use mir.ValLaws.{to_z-of_z}
 use Rattle.places.specs.Places.{is_first, is_last, on_boundary, nulled_by}
-use Rattle.places.specs.Inner.{code_in}
 use Rattle.places.proofs.ModeLaws.{none_left}
-use borrow.Author.Rules.{rules}
 use Rattle.places.proofs.modes.is_nulled.Goals as goal
 
 pub returns-in-Nothing : goal.returns-in-Nothing

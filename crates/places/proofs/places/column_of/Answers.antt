@@ -1,6 +1,5 @@
 -- `column_of` is the place as a column: where it is not below 0 it fits 16 bits.
 use native.Mathlib.Omega.{arith}
-use borrow.Author.Rules.{rules}
 use Rattle.places.specs.Places.{column_of}
 use Rattle.places.proofs.Columns.{answered, below, natural_from, column_fits}
 use Rattle.places.proofs.places.column_of.Goals as goal

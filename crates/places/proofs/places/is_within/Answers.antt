@@ -2,7 +2,6 @@
 use native.Mathlib.Omega.{arith}
 use mir.Syntax.{w32}
 use mir.ValLaws.{to_z_pos}
-use borrow.Author.Rules.{rules}
 use Rattle.places.proofs.Columns.{within_tests, answered}
 use Rattle.places.proofs.places.is_within.Goals as goal
 

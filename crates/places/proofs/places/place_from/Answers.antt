@@ -1,7 +1,6 @@
 -- `place_from` is the destination less the origin: 32 bits hold the difference of two numbers of 16.
 use mir.Syntax.{w16}
 use mir.ValLaws.{to_z-of_z}
-use borrow.Author.Rules.{rules}
 use Rattle.places.proofs.Columns.{widened, place_fits, placed, read_back}
 use Rattle.places.proofs.places.place_from.Goals as goal
 

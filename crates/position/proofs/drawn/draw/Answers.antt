@@ -7,7 +7,6 @@ use Rattle.position.specs.Fates.{fate_of}
 use Rattle.position.specs.Drawn.{inside_at, drawn}
 use Rattle.position.specs.Inner.{is_painted, pattern_read}
 use Rattle.position.proofs.Writing.{drawn_by_lem, open_inside, painted_open}
-use borrow.Author.Rules.{rules}
 use Rattle.position.proofs.drawn.draw.Goals as goal
 use Rattle.position.proofs.drawn.draw.Goals.{After-slice_known-then-is_painted-1, After-write-arg-1, Else-is_painted}
 

@@ -3,7 +3,6 @@ use mathlib.Core.Bool.{true, false}
 use Rattle.places.specs.declared.Brush.{Brush}
 use Rattle.position.specs.declared.Blends.{Blends}
 use Rattle.position.specs.Inner.{InkBlend, InkBlends}
-use borrow.Author.Rules.{rules}
 use Rattle.position.proofs.inks.blends_of.Goals as goal
 
 each : (b : Brush) (blends : Blends) → InkBlend b.depth b.colours.foreground b.flow.foreground blends.foreground

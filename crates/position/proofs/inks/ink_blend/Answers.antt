@@ -3,7 +3,6 @@ use mathlib.Core.Path.{◌∙◌, sym, ap}
 use Prim.Native.Nat.{ℕ}
 use Rattle.numbers.proofs.Choices.{choose_true, choose_false}
 use Rattle.mixes.specs.Mixes.{mixed}
-use borrow.Author.Rules.{rules}
 use Rattle.position.proofs.inks.ink_blend.Goals as goal
 
 pub returns-then-takes : goal.returns-then-takes

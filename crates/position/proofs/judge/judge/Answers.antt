@@ -1,17 +1,14 @@
 -- `judge` is the fate: where a position may be painted, mask and compare condition tell, and otherwise what is foreseen stands.
 -- whether it may be painted is as foreseen
 use mathlib.Core.Path.{◌≡◌, ◌∙◌, sym, ap}
-use mathlib.Core.Bool.{true}
 use mathlib.Core.List.{List}
 use Prim.Native.Nat.{ℕ}
-use borrow.Author.Tests.{not-true, not-false}
 use Rattle.numbers.specs.Choose.{choose}
 use Rattle.moves.specs.declared.Pen.{Pen}
 use Rattle.position.specs.declared.Fate.TheVariants.{Compared, Painted}
 use Rattle.position.specs.Fates.{is_compared, fate_of}
 use Rattle.position.specs.Inner.{is_painted, foreseen_of, Seen}
 use Rattle.position.proofs.Writing.{open_fate, closed_fate}
-use borrow.Author.Rules.{rules}
 use Rattle.position.proofs.judge.judge.Goals as goal
 use Rattle.position.proofs.judge.judge.Goals.{After-is_painted, Else-is_compared, Then-is_compared}
 

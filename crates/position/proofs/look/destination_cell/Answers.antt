@@ -1,5 +1,4 @@
 -- `destination_cell` is the cell at the destination's column and row, which lies in the memory inside the map and the mask boundary.
-use borrow.Author.Rules.{rules}
 use Rattle.position.proofs.look.destination_cell.Goals as goal
 
 pub find-requires : goal.find-requires

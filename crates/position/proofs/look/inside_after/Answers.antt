@@ -1,5 +1,4 @@
 -- `inside_after` is the choice by the pattern pixel.
-use borrow.Author.Rules.{rules}
 use Rattle.position.proofs.look.inside_after.Goals as goal
 
 pub returns-then-one : goal.returns-then-one

@@ -1,7 +1,6 @@
 -- `is_on_zero` is the definition: in mode 2 the mask pixel decides, and in no other it is asked.
 use borrow.Author.Tests.{eq-eqb, ne_eqb}
 use Rattle.position.specs.Fates.{on_zero}
-use borrow.Author.Rules.{rules}
 use Rattle.position.proofs.look.is_on_zero.Goals as goal
 
 pub returns-then-setup-ne2 : goal.returns-then-setup-ne2

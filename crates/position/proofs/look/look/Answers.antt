@@ -3,7 +3,6 @@
 use mathlib.Core.Path.{◌≡◌, ◌∙◌, sym, ap}
 use mathlib.Core.Bool.{true, false≢true}
 use lib.ListN.{length}
-use borrow.Author.Tests.{not-true, not-false}
 use Rattle.pixels.specs.Pixels.{pixel_at}
 use Rattle.pixels.specs.Inner.{cell_at}
 use Rattle.pixels.proofs.Pixels.{cell_in_byte}
@@ -12,7 +11,6 @@ use Rattle.position.specs.Fates.{destination_pixel}
 use Rattle.position.specs.Inner.{is_painted, foreseen_of}
 use Rattle.position.specs.Within.{Within}
 use Rattle.position.proofs.Writing.{open_inside}
-use borrow.Author.Rules.{rules}
 use Rattle.position.proofs.look.look.Goals as goal
 use Rattle.position.proofs.look.look.Goals.{After-blank, After-blank-then-is_on_zero, After-value, Else-is_on_zero, Else-not-is_painted}
 

@@ -5,7 +5,6 @@ use borrow.Author.Tests.{not-true, not-false}
 use Rattle.position.specs.Drawn.{is_one, inside_at}
 use Rattle.position.specs.Inner.{pattern_read}
 use Rattle.position.proofs.Safety.{pattern_unread}
-use borrow.Author.Rules.{rules}
 use Rattle.position.proofs.look.pattern_read.Goals as goal
 use Rattle.position.proofs.look.pattern_read.Goals.{After-get-arg-1, After-inside_after-inside, Else-setup}
 

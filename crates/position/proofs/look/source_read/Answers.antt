@@ -3,7 +3,6 @@ use mathlib.Core.Path.{sym, ◌∙◌}
 use Rattle.numbers.proofs.Choices.{choose_true, choose_false}
 use Rattle.position.specs.Drawn.{source_pixel}
 use Rattle.position.specs.Inner.{source_read}
-use borrow.Author.Rules.{rules}
 use Rattle.position.proofs.look.source_read.Goals as goal
 
 pub get-requires : goal.get-requires

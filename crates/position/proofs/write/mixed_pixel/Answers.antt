@@ -15,7 +15,6 @@ use Rattle.position.specs.declared.Sight.{Sight}
 use Rattle.position.specs.Drawn.{is_foreground, ink_of, picked, mixed_pixel}
 use Rattle.position.specs.Inner.{Target, Seen}
 use Rattle.position.proofs.Safety.{picked_read}
-use borrow.Author.Rules.{rules}
 use Rattle.position.proofs.write.mixed_pixel.Goals as goal
 use Rattle.position.proofs.write.mixed_pixel.Goals.{After-is_foreground-foreground}
 

@@ -1,6 +1,5 @@
 -- `picked` is the source pixel exactly where the picked source field asks for it.
 use mathlib.Core.Path.{◌∙◌, sym}
-use borrow.Author.Rules.{rules}
 use Rattle.position.proofs.write.picked.Goals as goal
 
 pub returns-then-takes_source : goal.returns-then-takes_source

@@ -3,7 +3,6 @@ use Rattle.pixels.specs.Inner.{cell_at}
 use Rattle.pixels.specs.Pixels.{with_pixel}
 use Rattle.position.specs.Drawn.{drawn}
 use Rattle.position.proofs.Writing.{painted_open, drawn_by_lem}
-use borrow.Author.Rules.{rules}
 use Rattle.position.proofs.write.write.Goals as goal
 
 pub mixed_pixel-new-requires : goal.mixed_pixel-new-requires

@@ -1,5 +1,5 @@
 -- `draw_apart` is a pattern expanded, or a row shifted.
-use Rattle.std.proofs.Common.{ℕ, length, sym, ◌∙◌, subst, rules}
+use Rattle.std.proofs.Common.{ℕ, length, sym, ◌∙◌, subst}
 use Rattle.rows.specs.Inner.{swept_from, ApartFrom}
 use Rattle.runs.proofs.LaidLaws.{lies, meets, inked, same, alike}
 use Rattle.runs.proofs.lanes.draw_apart.Goals as goal

@@ -1,8 +1,8 @@
 -- `draw_lane` sweeps a lane that is in phase, and draws another only where it lies apart.
 -- a lane that is swept takes no pattern
-use Rattle.std.proofs.Common.{◌≡◌, Bool, true, false, not, ◌&&◌, sym, refl, ap, ◌∙◌, rules}
+use Rattle.std.proofs.Common.{◌≡◌, Bool, true, false, not, ◌&&◌, sym, refl, ap, ◌∙◌}
 use mathlib.Core.Bool.{false≢true}
-use borrow.Author.Tests.{not-true, not-false}
+use borrow.Author.Tests.{not-true}
 use Rattle.numbers.proofs.Choices.{and_left, and_right}
 use Rattle.rows.specs.Inner.{swept_from}
 use Rattle.runs.specs.Inner.{is_pattern}

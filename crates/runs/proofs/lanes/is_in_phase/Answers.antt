@@ -1,5 +1,5 @@
 -- `is_in_phase` compares how far up the pixels lie, which tells their phases.
-use Rattle.std.proofs.Common.{sym, ◌∙◌, rules, eqb-true}
+use Rattle.std.proofs.Common.{sym, ◌∙◌, eqb-true}
 use borrow.Author.Tests.{eqb-false}
 use Rattle.rows.proofs.LiesLaws.{shift_phase}
 use Rattle.runs.proofs.lanes.is_in_phase.Goals as goal

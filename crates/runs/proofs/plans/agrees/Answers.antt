@@ -1,5 +1,5 @@
 -- `agrees` is the definition, turn by turn.
-use Rattle.std.proofs.Common.{not, ◌&&◌, rules}
+use Rattle.std.proofs.Common.{not, ◌&&◌}
 use Rattle.runs.proofs.plans.agrees.Goals as goal
 
 pub returns-in-Forth : goal.returns-in-Forth

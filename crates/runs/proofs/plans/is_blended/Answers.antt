@@ -1,5 +1,5 @@
 -- `is_blended` is the definition, with the map's size found by a call.
-use Rattle.std.proofs.Common.{not, ◌&&◌, ◌||◌, eqb, ltb, rules}
+use Rattle.std.proofs.Common.{not, ◌&&◌, ◌||◌, eqb, ltb}
 use Rattle.runs.proofs.plans.is_blended.Goals as goal
 
 pub returns : goal.returns

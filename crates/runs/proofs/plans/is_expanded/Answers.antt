@@ -1,5 +1,5 @@
 -- `is_expanded` is the definition, with the sizes found by calls.
-use Rattle.std.proofs.Common.{◌&&◌, eqb, ltb, rules}
+use Rattle.std.proofs.Common.{◌&&◌, eqb, ltb}
 use Rattle.runs.proofs.plans.is_expanded.Goals as goal
 
 pub returns : goal.returns

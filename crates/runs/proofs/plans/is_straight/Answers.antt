@@ -1,5 +1,5 @@
 -- `is_straight` is the definition, part by part.
-use Rattle.std.proofs.Common.{not, ◌&&◌, rules}
+use Rattle.std.proofs.Common.{not, ◌&&◌}
 use Rattle.runs.proofs.plans.is_straight.Goals as goal
 
 pub returns : goal.returns

@@ -1,5 +1,5 @@
 -- `is_wide` is the definition.
-use Rattle.std.proofs.Common.{◌&&◌, ltb, rules}
+use Rattle.std.proofs.Common.{◌&&◌, ltb}
 use Rattle.runs.proofs.plans.is_wide.Goals as goal
 
 pub returns : goal.returns

@@ -1,5 +1,5 @@
 -- `mask_end` is the definition's choice, by the mode.
-use Rattle.std.proofs.Common.{rules, ne_eqb}
+use Rattle.std.proofs.Common.{ne_eqb}
 use Rattle.runs.proofs.plans.mask_end.Goals as goal
 
 pub returns-then-mode-eq0 : goal.returns-then-mode-eq0

@@ -1,6 +1,6 @@
 -- `plan_by` is the plan, part by part.
 -- what is taken is as the drawing has it
-use Rattle.std.proofs.Common.{◌≡◌, Bool, true, false, sym, refl, subst, rules}
+use Rattle.std.proofs.Common.{◌≡◌, Bool, true, false, sym, refl, subst}
 use Rattle.numbers.specs.Choose.{choose}
 use Rattle.places.specs.declared.Setup.{Setup}
 use Rattle.runs.specs.declared.plans.Taken.TheVariants.{Own, Source, Pattern}

@@ -1,6 +1,6 @@
 -- `plan_of` is that of rows or strokes only where there are any.
 -- of two tests the other holds
-use Rattle.std.proofs.Common.{◌≡◌, Bool, true, false, ◌||◌, sym, ◌∙◌, rules}
+use Rattle.std.proofs.Common.{◌≡◌, Bool, true, false, ◌||◌, sym, ◌∙◌}
 use mathlib.Core.Bool.{false≢true}
 use Rattle.numbers.proofs.Choices.{and_right}
 use Rattle.runs.proofs.plans.plan_of.Goals as goal

@@ -1,13 +1,8 @@
 -- `run_singly` is that many positions: at each turn pen, memory and count are those of the positions done, and a drawing in hand is safe, as every move keeps it so.
-use Rattle.std.proofs.Common.{◌≡◌, ◌+◌, ◌-◌, ◌<◌, ◌≤◌, Bool, true, ◌&&◌, ltb, length, sym, refl, ap, ◌∙◌, zero-le, arith, rules, ltb-true}
-use Rattle.numbers.proofs.Choices.{and_left, and_right}
-use Rattle.parts.specs.Drawings.{unfinished, with_inside}
-use Rattle.moves.specs.Moves.{pen_with, moved}
-use Rattle.position.specs.Drawn.{crossed}
+use Rattle.std.proofs.Common.{◌≡◌, ◌-◌, ◌≤◌, true, length}
+use Rattle.parts.specs.Drawings.{unfinished}
 use Rattle.position.specs.Inner.{Safe}
-use Rattle.position.proofs.Safety.{safe_within, safe_with, safe_moved}
-use Rattle.runs.specs.Runs.{Run, begun, positioned, after}
-use Rattle.runs.proofs.AfterLaws.{after_stop, after_on, parts}
+use Rattle.runs.specs.Runs.{begun, after}
 use Rattle.runs.proofs.singly.run_singly.Given as goal
 
 abbrev pub invariant-loop-done : goal.invariant-loop-done

@@ -1,5 +1,5 @@
 -- `block_length` is a stretch, by the tests that it passed and the least of three numbers.
-use Rattle.std.proofs.Common.{◌≡◌, ℕ, ◌≤◌, Bool, sym, ap, ◌∙◌, arith, rules}
+use Rattle.std.proofs.Common.{◌≡◌, ℕ, ◌≤◌, Bool, sym, ap, ◌∙◌, arith}
 use native.Mathlib.Nat.{min-le_left, min-le_right}
 use borrow.Author.Tests.{not-false}
 use Rattle.parts.specs.declared.drawing.Drawing.TheVariants.{Block}

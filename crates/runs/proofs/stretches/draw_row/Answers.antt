@@ -1,7 +1,6 @@
 -- `draw_row` is a stretch: the lane of its row drawn, and the pen as many columns further.
 -- the positions from the pen on are a stretch, of a drawing by rows
 use Rattle.std.proofs.Common.{◌≡◌, suc, ◌-◌, ◌<◌, true, length, sym, refl, ap, ◌∙◌, subst, zero-le, arith}
-use borrow.Author.Tests.{not-true, not-false}
 use Rattle.pixels.specs.declared.Map.{Map}
 use Rattle.rows.specs.declared.Lane.{Lane}
 use Rattle.rows.specs.Inner.{swept_from}

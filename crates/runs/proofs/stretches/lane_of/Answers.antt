@@ -1,5 +1,5 @@
 -- `lane_of` is the definition, with each pixel's number found by a call.
-use Rattle.std.proofs.Common.{◌∙◌, subst, rules}
+use Rattle.std.proofs.Common.{◌∙◌, subst}
 use Rattle.runs.specs.Inner.{Sized, pixel_number}
 use Rattle.runs.proofs.stretches.lane_of.Goals as goal
 

@@ -1,5 +1,5 @@
 -- `length_of` is that of the block in hand, and 0 for any other drawing and where rows are not drawn as rows.
-use Rattle.std.proofs.Common.{arith, rules}
+use Rattle.std.proofs.Common.{arith}
 use borrow.Author.Tests.{not-false}
 use Rattle.runs.proofs.stretches.length_of.Goals as goal
 

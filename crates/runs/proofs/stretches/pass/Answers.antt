@@ -1,6 +1,6 @@
 -- `pass` goes on by all columns, or from the first of them to the next row's start: as by all but the last, and then by that one's move.
 -- the pen so many columns further
-use Rattle.std.proofs.Common.{◌≡◌, ℕ, ◌+◌, ◌-◌, ◌≤◌, false, sym, refl, ap, ◌∙◌, add-one, arith, rules}
+use Rattle.std.proofs.Common.{◌≡◌, ℕ, ◌+◌, ◌-◌, ◌≤◌, false, sym, refl, ap, ◌∙◌, add-one, arith}
 use Rattle.parts.specs.declared.drawing.Drawing.{Drawing}
 use Rattle.parts.specs.declared.drawing.Drawing.TheVariants.{Block}
 use Rattle.moves.specs.declared.Pen.{Pen}

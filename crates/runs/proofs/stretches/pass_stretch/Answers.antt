@@ -1,5 +1,5 @@
 -- `pass_stretch` is that of the block in hand.
-use Rattle.std.proofs.Common.{◌+◌, ◌-◌, false, sym, ap, ◌∙◌, rules}
+use Rattle.std.proofs.Common.{◌+◌, ◌-◌, false, sym, ap, ◌∙◌}
 use mathlib.Core.Bool.{false≢true}
 use Rattle.parts.specs.declared.drawing.Drawing.TheVariants.{Block}
 use Rattle.moves.specs.Moves.{moved}

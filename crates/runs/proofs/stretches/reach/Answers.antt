@@ -1,5 +1,5 @@
 -- `reach` is the lesser of two spans, each of which has the fewer in it.
-use Rattle.std.proofs.Common.{ℕ, ◌≤◌, subst, arith, rules}
+use Rattle.std.proofs.Common.{ℕ, ◌≤◌, subst, arith}
 use native.Mathlib.Nat.{min-le_left, min-le_right}
 use Rattle.pixels.specs.declared.Map.{Map}
 use Rattle.runs.specs.Inner.{Spans, column_at, taken_map, taken_x}

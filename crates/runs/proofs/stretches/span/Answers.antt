@@ -1,6 +1,6 @@
 -- `span` counts to the last place in its direction.
 -- the place lies from low to high
-use Rattle.std.proofs.Common.{◌≤◌, ltb, arith, rules, ltb-false}
+use Rattle.std.proofs.Common.{◌≤◌, ltb, arith, ltb-false}
 use Rattle.runs.proofs.PlaceLaws.{neither}
 use Rattle.runs.proofs.stretches.span.Goals as goal
 use Rattle.runs.proofs.stretches.span.Goals.{Else-here-low}

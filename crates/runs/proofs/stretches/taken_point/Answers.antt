@@ -1,5 +1,4 @@
 -- `taken_point` is the definition, by what is taken.
-use Rattle.std.proofs.Common.{rules}
 use Rattle.runs.proofs.stretches.taken_point.Goals as goal
 
 pub returns-in-Own : goal.returns-in-Own

@@ -1,5 +1,5 @@
 -- `code_on` is the definition's choice.
-use Rattle.std.proofs.Common.{arith, rules}
+use Rattle.std.proofs.Common.{arith}
 use Rattle.runs.proofs.strokes.code_on.Goals as goal
 
 pub returns-then-ends : goal.returns-then-ends

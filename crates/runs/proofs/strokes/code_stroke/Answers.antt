@@ -1,5 +1,5 @@
 -- `code_stroke` is the definition, part by part.
-use Rattle.std.proofs.Common.{ℕ, ◌-◌, not, ap, ◌∙◌, rules}
+use Rattle.std.proofs.Common.{ℕ, ◌-◌, not, ap, ◌∙◌}
 use Rattle.runs.proofs.strokes.code_stroke.Goals as goal
 
 pub returns : goal.returns

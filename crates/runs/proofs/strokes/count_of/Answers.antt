@@ -1,5 +1,5 @@
 -- `count_of` is limited by each span in turn.
-use Rattle.std.proofs.Common.{◌∙◌, arith, rules}
+use Rattle.std.proofs.Common.{◌∙◌, arith}
 use native.Mathlib.Nat.{min-le_left, min-le_right}
 use Rattle.runs.proofs.strokes.count_of.Goals as goal
 

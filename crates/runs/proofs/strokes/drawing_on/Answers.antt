@@ -1,5 +1,5 @@
 -- `drawing_on` is the definition at each kind of drawing that is a stroke.
-use Rattle.std.proofs.Common.{sym, ap, ◌∙◌, rules}
+use Rattle.std.proofs.Common.{sym, ap, ◌∙◌}
 use mathlib.Core.Bool.{false≢true}
 use Rattle.runs.specs.Inner.{is_stroke}
 use Rattle.runs.proofs.strokes.drawing_on.Goals as goal

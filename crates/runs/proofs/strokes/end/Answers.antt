@@ -1,5 +1,4 @@
 -- `end` makes the pixel only where the stroke ends.
-use Rattle.std.proofs.Common.{rules}
 use Rattle.runs.proofs.strokes.end.Goals as goal
 
 pub dot-requires : goal.dot-requires

@@ -1,6 +1,6 @@
 -- `go` is the stroke's positions: the pixels of its trail, and the pen by the number of the pixel there.
 -- the trail
-use Rattle.std.proofs.Common.{◌≡◌, ℕ, ◌+◌, ◌/◌, ◌%◌, ◌<◌, ◌≤◌, true, ◌&&◌, eqb, ltb, length, pos, sym, ap, ◌∙◌, subst, arith, w32, rules, ltb-true, eqb-true}
+use Rattle.std.proofs.Common.{◌≡◌, ℕ, ◌+◌, ◌/◌, ◌%◌, ◌<◌, ◌≤◌, true, ◌&&◌, eqb, ltb, length, pos, sym, ap, ◌∙◌, subst, arith, w32, ltb-true, eqb-true}
 use mir.ValLaws.{to_z-of_z}
 use Rattle.numbers.specs.Choose.{choose}
 use Rattle.numbers.specs.Circles.{circle}

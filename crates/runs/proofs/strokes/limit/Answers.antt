@@ -1,5 +1,5 @@
 -- `limit` keeps the last step within the span, where it moves.
-use Rattle.std.proofs.Common.{◌-◌, sym, ◌∙◌, arith, rules}
+use Rattle.std.proofs.Common.{◌-◌, sym, ◌∙◌, arith}
 use mathlib.Core.Bool.{false≢true}
 use native.Mathlib.Nat.{min-le_left, min-le_right}
 use Rattle.runs.proofs.strokes.limit.Goals as goal

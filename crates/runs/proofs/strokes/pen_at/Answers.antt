@@ -1,5 +1,5 @@
 -- `pen_at` is the definition, part by part.
-use Rattle.std.proofs.Common.{w16, w32, rules}
+use Rattle.std.proofs.Common.{w16, w32}
 use mir.ValLaws.{to_z-of_z}
 use Rattle.runs.proofs.strokes.pen_at.Goals as goal
 

@@ -1,5 +1,5 @@
 -- `raise` is the definition.
-use Rattle.std.proofs.Common.{arith, lit<, w32, to_z, of_z, rules}
+use Rattle.std.proofs.Common.{arith, lit<, w32, to_z, of_z}
 use mir.ValLaws.{to_z-of_z}
 use Rattle.numbers.specs.Circles.{forth}
 use Rattle.numbers.proofs.CircleLaws.{residue_lt}

@@ -1,5 +1,5 @@
 -- `remainder` is that of the machine's number.
-use Rattle.std.proofs.Common.{lit<, w32, rules}
+use Rattle.std.proofs.Common.{lit<, w32}
 use mir.ValLaws.{to_z-of_z}
 use Rattle.numbers.proofs.CircleLaws.{residue_mod}
 use Rattle.runs.proofs.strokes.remainder.Goals as goal

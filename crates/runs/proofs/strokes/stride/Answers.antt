@@ -1,5 +1,4 @@
 -- `stride` is the definition, turn by turn.
-use Rattle.std.proofs.Common.{rules}
 use Rattle.runs.proofs.strokes.stride.Goals as goal
 
 pub returns-in-Forth : goal.returns-in-Forth

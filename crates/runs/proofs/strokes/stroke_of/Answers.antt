@@ -1,5 +1,5 @@
 -- `stroke_of` is the definition at each kind of drawing.
-use Rattle.std.proofs.Common.{ℕ, ap, ◌∙◌, w32, rules}
+use Rattle.std.proofs.Common.{ℕ, ap, ◌∙◌, w32}
 use mir.ValLaws.{to_z-of_z}
 use Rattle.runs.specs.Inner.{code_stroke}
 use Rattle.runs.proofs.strokes.stroke_of.Goals as goal

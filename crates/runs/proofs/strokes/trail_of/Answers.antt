@@ -1,5 +1,4 @@
 -- `trail_of` is the definition, part by part.
-use Rattle.std.proofs.Common.{rules}
 use Rattle.runs.proofs.strokes.trail_of.Goals as goal
 
 pub returns : goal.returns

@@ -1,5 +1,5 @@
 -- `turns_of` is limited by the spans in which only turned steps move.
-use Rattle.std.proofs.Common.{not, ap, ◌∙◌, arith, rules}
+use Rattle.std.proofs.Common.{not, ap, ◌∙◌, arith}
 use Rattle.runs.proofs.strokes.turns_of.Goals as goal
 
 pub returns : goal.returns

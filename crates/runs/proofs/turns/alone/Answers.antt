@@ -1,5 +1,5 @@
 -- `alone` is no more than are allowed.
-use Rattle.std.proofs.Common.{arith, rules}
+use Rattle.std.proofs.Common.{arith}
 use Rattle.runs.proofs.turns.alone.Goals as goal
 
 pub returns-then-plan : goal.returns-then-plan

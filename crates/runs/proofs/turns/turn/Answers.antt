@@ -1,5 +1,5 @@
 -- `turn` is some positions that are alike, or some one by one.
-use Rattle.std.proofs.Common.{◌≡◌, ℕ, List, sym, ap, ◌∙◌, arith, rules}
+use Rattle.std.proofs.Common.{◌≡◌, ℕ, List, sym, ap, ◌∙◌, arith}
 use Rattle.runs.specs.Runs.{Run, begun, after}
 use Rattle.runs.proofs.RunLaws.{reached, after_done, done_some}
 use Rattle.runs.proofs.turns.turn.Goals as goal
