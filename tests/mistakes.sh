@@ -2,27 +2,34 @@
 # Whether each mistake of the must-fail edits is refused for itself, and over a fact: for every line `# refused: PLACE [LAW]` the check of the crate
 # with that edit has an error in the proof of that function, or in that law of that file of proofs/, or finds no proof of what the function promises;
 # an error that is only of something refused before it, or of a name that the edit took away, does not count. Where another mistake of the edit
-# hides it, it is tried alone. The logs are target/must-fail/CRATE/EDIT.log, and behind EDIT the mistake's number where it was tried alone; what they
-# were made from has not changed, or they are made anew.
+# hides it, it is tried alone. The logs are target/must-fail/CRATE/EDIT.log, and EDIT.NUMBER.log of a mistake that was tried alone; each is made anew
+# where what it was made from has changed.
 # usage: tests/mistakes.sh [CRATE..]     (in the repository's root; with RT_FLAGS='--jobs 1', say, for rt check)
 set -uo pipefail
 failed=0 looked=0
 work=$(mktemp -d) || exit 2
 trap 'rm -rf "$work"' EXIT
 
+# kept: the crates as they are now; tried: the copy in which edits are made and checked
+kept=$work/kept tried=$work/tried
+
 tell() {
     echo "FAILED: $edit $1"
     failed=1
 }
 
-# text_of CRATE..: a sum of what checks of these crates read
-text_of() {
-    local crate
-    for crate in "$@"; do find "crates/$crate/src" "crates/$crate/specs" "crates/$crate/proofs" -type f -exec sha256sum {} + 2>/dev/null; done | sort | sha256sum
+# sources CRATE TO: copies what a check of the crate reads
+sources() {
+    local part
+    mkdir -p "$2/crates/$1"
+    for part in src specs proofs; do
+        rm -rf "$2/crates/$1/$part"
+        if [ -d "crates/$1/$part" ]; then cp -r "crates/$1/$part" "$2/crates/$1"; fi
+    done
 }
 
-# one_line FILE OLD NEW: the one place of the file that has this text gets the other
-one_line() {
+# change FILE OLD NEW: the one line of the file that has the old text gets the new one
+change() {
     OLD=$2 NEW=$3 awk '
         BEGIN { old = ENVIRON["OLD"]; new = ENVIRON["NEW"] }
         (at = index($0, old)) > 0 { $0 = substr($0, 1, at - 1) new substr($0, at + length(old)); found++ }
@@ -32,98 +39,94 @@ one_line() {
 
 # apply [NUMBER]: makes the edit's changes in the copy, or those of its mistake of that number alone
 apply() {
-    local line file='' old='' number=0 in_head=0
-    rm -rf "$copy/src" "$copy/specs" "$copy/proofs"
-    cp -r "crates/$crate/src" "$copy"
-    if [ -d "crates/$crate/specs" ]; then cp -r "crates/$crate/specs" "$copy"; fi
-    if [ -d "crates/$crate/proofs" ]; then cp -r "crates/$crate/proofs" "$copy"; fi
+    local line file='' old='' number=0 is_head=0
+    (cd "$kept" && sources "$crate" "$tried")
     while IFS= read -r line; do
         case $line in
-        '#'*) if ((in_head == 0)); then number=$((number + 1)) in_head=1; fi ;;
-        'file: '*) file=${line#file: } in_head=0 ;;
-        'old: '*) old=${line#old: } in_head=0 ;;
+        '#'*)
+            if ((is_head == 0)); then number=$((number + 1)); fi
+            is_head=1
+            continue
+            ;;
+        'file: '*) file=${line#file: } ;;
+        'old: '*) old=${line#old: } ;;
         'new:'*)
-            in_head=0
             line=${line#new:}
             if [ -z "${1:-}" ] || [ "$1" = "$number" ]; then
-                one_line "$copy/$file" "$old" "${line# }" || return 1
+                change "$tried/crates/$crate/$file" "$old" "${line# }" || return 1
             fi
             ;;
         esac
-    done <"$edit"
+        is_head=0
+    done <"$kept/$edit"
 }
 
-# check LOG [NUMBER]: the log of the check with the edit, or with its mistake of that number alone
+# check LOG [NUMBER]: sees to the log of the check with the edit, or with its mistake of that number alone
 check() {
-    local sum
-    sum="$below $(sha256sum <"$edit")"
-    if [ -s "$1" ] && [ "$(tail -n 1 "$1")" = "made from $sum" ]; then return 0; fi
+    local from
+    from="made from $below $(sha256sum <"$kept/$edit")"
+    if [ -s "$1" ] && [ "$(tail -n 1 "$1")" = "$from" ]; then return 0; fi
     rm -f "$1"
     apply "${2:-}" || {
         tell "cannot be applied${2:+, its mistake $2}"
         return 1
     }
     # shellcheck disable=SC2086
-    (cd "$copy" && rt check ${RT_FLAGS:-}) >"$work/log" 2>&1
+    (cd "$tried/crates/$crate" && rt check ${RT_FLAGS:-}) >"$work/log" 2>&1
     if ! grep -q '^logic=not-proved' "$work/log"; then
-        tell "is not refused, or not checked${2:+, its mistake $2}: $(grep -E '^logic=|error' "$work/log" | head -n 1)"
+        tell "is not refused, or not checked${2:+, its mistake $2}: $(grep -E '^logic=|error' "$work/log" | tail -n 1)"
         return 1
     fi
-    {
-        cat "$work/log"
-        echo "made from $sum"
-    } >"$1"
+    { cat "$work/log" && echo "$from"; } >"$1"
 }
 
 # is_refused LOG PLACE [LAW]: whether the log has an error there that counts
 is_refused() {
-    local place=$2 law=${3:-} name
-    name=$crate::${place//\//::}
+    local place=$2 law=${3:-}
     grep -asE "(^|/)proofs/$place(/(Answers|Invariants|Proof))?\.antt:[0-9]+:[0-9]+: error: \`${law:-[^\`]*}\`: " "$1" |
         grep -aqvE 'was not admitted|has no field|is not in scope|has no `' ||
-        grep -asE "^fn $name: no proof: expected answers" "$1" | grep -aqF "${law:+\`$law\`}"
+        grep -asE "^fn $crate::${place//\//::}: no proof: expected answers" "$1" | grep -aqF "${law:+\`$law\`}"
 }
 
-mkdir "$work/crates"
-cp crates.txt "$work"
-for folder in crates/*/; do
-    mkdir "$work/$folder"
-    for part in src specs proofs; do if [ -d "$folder$part" ]; then cp -r "$folder$part" "$work/$folder"; fi; done
+mkdir "$kept" "$tried"
+cp crates.txt "$kept"
+cp crates.txt "$tried"
+mapfile -t all < <(sed 's/#.*//; s/[ :].*//; /^$/d' crates.txt)
+for crate in "${all[@]}"; do
+    sources "$crate" "$kept"
+    sources "$crate" "$tried"
+    if [ -d "crates/$crate/must-fail" ]; then cp -r "crates/$crate/must-fail" "$kept/crates/$crate"; fi
 done
 
-if (($# == 0)); then mapfile -t crates < <(sed 's/#.*//; s/[ :].*//; /^$/d' crates.txt); else crates=("$@"); fi
-for crate in "${crates[@]}"; do
-    copy=$work/crates/$crate
-    below=
+if (($# == 0)); then set -- "${all[@]}"; fi
+for crate in "$@"; do
+    below=$({
+        rt version
+        cd "$kept" && awk -v wanted="$crate" -f "$OLDPWD/scripts/below.awk" crates.txt |
+            while read -r name; do find "crates/$name/src" "crates/$name/specs" "crates/$name/proofs" -type f -exec sha256sum {} + 2>/dev/null; done | sort
+    } | sha256sum)
     for edit in "crates/$crate"/must-fail/*.edit; do
-        [ -f "$edit" ] || continue
-        if [ -z "$below" ]; then
-            mapfile -t needed < <(awk -v wanted="$crate" -f scripts/below.awk crates.txt)
-            below=$(rt version; text_of "${needed[@]}")
-            below=$(sha256sum <<<"$below")
-        fi
-        label=$(basename "$edit" .edit)
-        logs=target/must-fail/$crate
-        mkdir -p "$logs"
-        check "$logs/$label.log" || continue
-        number=0 in_head=0
+        [ -f "$kept/$edit" ] || continue
+        logs=target/must-fail/$crate/$(basename "$edit" .edit)
+        mkdir -p "$(dirname "$logs")"
+        check "$logs.log" || continue
+        number=0 is_head=0
         while IFS= read -r line; do
-            case $line in
-            '#'*)
-                if ((in_head == 0)); then number=$((number + 1)) in_head=1; fi
-                [[ $line =~ ^'# refused: '([^ ]+)' '?(.*)$ ]] || continue
-                place=${BASH_REMATCH[1]} law=${BASH_REMATCH[2]}
-                looked=$((looked + 1))
-                is_refused "$logs/$label.log" "$place" "$law" ||
-                    { check "$logs/$label.$number.log" "$number" && is_refused "$logs/$label.$number.log" "$place" "$law"; } ||
-                    tell "is not refused in $place${law:+ $law}, its mistake $number"
-                ;;
-            *) in_head=0 ;;
-            esac
-        done <"$edit"
+            if [[ $line != '#'* ]]; then
+                is_head=0
+                continue
+            fi
+            if ((is_head == 0)); then number=$((number + 1)); fi
+            is_head=1
+            [[ $line =~ ^'# refused: '([^ ]+)' '?(.*)$ ]] || continue
+            place=${BASH_REMATCH[1]} law=${BASH_REMATCH[2]}
+            looked=$((looked + 1))
+            is_refused "$logs.log" "$place" "$law" ||
+                { check "$logs.$number.log" "$number" && is_refused "$logs.$number.log" "$place" "$law"; } ||
+                tell "is not refused in $place${law:+ $law}, its mistake $number"
+        done <"$kept/$edit"
     done
-    rm -rf "$copy/src" "$copy/specs" "$copy/proofs"
-    for part in src specs proofs; do if [ -d "crates/$crate/$part" ]; then cp -r "crates/$crate/$part" "$copy"; fi; done
+    (cd "$kept" && sources "$crate" "$tried")
 done
 echo "mistakes refused each for itself: $looked looked up"
 [ "$looked" -gt 0 ] || failed=1
