@@ -11,7 +11,10 @@ import re
 
 TOKEN = re.compile(r"(?<![\w'-])[A-Za-z][\w'-]*")
 DEFINES = re.compile(r"\s*(?:(?:unfoldable|abbrev|open|pub|private|ruleset|data|record)\s+)*([a-z][\w'-]*)\s*(?:\(|\{|:)")
-OTHER = re.compile(r"\s*(--|use\b|unfolding\b|mod\b|pub mod\b|let\b|in\b|where\b|elim\b)")
+OTHER = re.compile(r"\s*(--|(use|unfolding|mod|pub mod|let|in|where|elim)(?![\w'-]))")
+
+# Two lemmas that port.py left with a word of the older library, and the variables of one definition.
+OWN = {"get_d_default": "get_or_default", "get_d_zip": "get_or_zip", "fromX": "from_x", "fromY": "from_y", "toY": "to_y"}
 
 # port.py gave these lemmas the name of a definition: in these files the lemma is meant.
 LEMMAS = {
@@ -54,6 +57,7 @@ def names_of(text):
             new[n] = snake(n) + "_lem"
         else:
             new[n] = snake(n)
+    new |= OWN
     return {n: m for n, m in new.items() if n != m}, set(new.values())
 
 

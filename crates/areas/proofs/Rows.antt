@@ -10,7 +10,7 @@ use Rattle.numbers.specs.Circles.{forth, back, residue}
 use Rattle.numbers.proofs.CircleLaws.{residue_lt}
 use Rattle.moves.specs.declared.Turn.{Turn}
 use Rattle.moves.specs.declared.Turn.TheVariants.{Stay, Forth, Back}
-use Rattle.moves.specs.Turns.{opposite, turned_by, circled_by}
+use Rattle.moves.specs.Turns.{turned_by, circled_by}
 use Rattle.moves.specs.Steps.{goes_up}
 use Rattle.moves.proofs.CircledLaws.{OnCircle, residue_circled, circled_return}
 use Rattle.areas.specs.Crossings.{below, same_place}

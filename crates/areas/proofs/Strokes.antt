@@ -63,8 +63,8 @@ module _ (s : Travel) (pen : Pen) where
   idle_after (suc n) idle = ap (moved s) (idle_after n idle) ∙ moved_idle s pen idle
 
   -- so what is in hand later was so from the start
-  in-hand : (n : ℕ) → unfinished (pen_after s n pen).drawing ≡ true → unfinished pen.drawing ≡ true
-  in-hand n going = by (unfinished pen.drawing) refl
+  in_hand_lem : (n : ℕ) → unfinished (pen_after s n pen).drawing ≡ true → unfinished pen.drawing ≡ true
+  in_hand_lem n going = by (unfinished pen.drawing) refl
     where
       by : (t : Bool) → unfinished pen.drawing ≡ t → unfinished pen.drawing ≡ true
       by true e = e
@@ -102,7 +102,7 @@ module _ (s : Setup) (t : Toggles s) (pen : Pen) (start : at_start pen.drawing �
 
   held_after : (n : ℕ) → unfinished (pen_at n).drawing ≡ true → place_of s.brush.destination x y < length (memory_after n)
   unfolding begun
-  held_after n going = rw (length_after s n (begun pen memory)) (held (in-hand s.travel pen n going))
+  held_after n going = rw (length_after s n (begun pen memory)) (held (in_hand_lem s.travel pen n going))
 
   -- a position turns the pixel where it crosses there
   position_toggles : (n : ℕ) → unfinished (pen_at n).drawing ≡ true

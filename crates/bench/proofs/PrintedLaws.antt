@@ -10,7 +10,6 @@ use Rattle.coprocessor.specs.Fresh.{size_holds, fresh_answer}
 use Rattle.console.specs.Commands.{line_command}
 use Rattle.console.specs.Gathered.{command_in}
 use Rattle.console.proofs.GatherLaws.{buffer_after, counts_after, buffer_length, line_gathered, buffer_last, counts_last, counts_some}
-use Rattle.console.specs.Texts.{memory_text}
 use Rattle.bench.specs.Printed.{byte_before, lines_of, BenchState, state_after, line_text, state_after_all, text_of_all, first_state, printed}
 use Rattle.bench.specs.Inner.{Session, session_of, first_bench, line_ended, byte_gathered, byte_taken, bytes_taken, last_ended, with_text, input_ended}
 use Rattle.bench.specs.Played.{first_reading, progress_of, first_progress}

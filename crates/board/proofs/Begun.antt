@@ -1,7 +1,6 @@
 -- What a call knows once it has opened the image: whether it loads, and the record that it is.
-use Rattle.std.proofs.Common.{◌≡◌, ℕ, Bool, true, List, sym, ap, ◌∙◌}
+use Rattle.std.proofs.Common.{◌≡◌, ℕ, Bool, true, List, ap, ◌∙◌}
 use Rattle.parts.specs.Refusals.{is_accepted}
-use Rattle.coprocessor.specs.declared.Coprocessor.{Coprocessor}
 use Rattle.coprocessor.specs.declared.Written.{Written}
 use Rattle.coprocessor.specs.Images.{loads, loaded}
 use Rattle.coprocessor.specs.Inner.{opened_of}

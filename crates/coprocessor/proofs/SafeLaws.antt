@@ -19,7 +19,6 @@ use Rattle.rules.specs.Going.{counters_hold, pointers_hold}
 use Rattle.rules.proofs.RefusalLaws.{accepted_holds}
 use Rattle.moves.specs.Decoded.{travel_of}
 use Rattle.places.specs.Decoded.{flow_of, brush_of}
-use Rattle.position.specs.Within.{reads_source}
 use Rattle.position.specs.Inner.{Safe}
 use Rattle.coprocessor.specs.declared.Coprocessor.{Coprocessor}
 use Rattle.coprocessor.specs.Fresh.{size_holds}

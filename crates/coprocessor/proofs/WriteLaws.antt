@@ -1,5 +1,5 @@
 -- The refusals of a write are those of 1 to 8, and then 10 for a record that is not valid; and an accepted read or write is placed.
-use mathlib.Core.Path.{◌≡◌, refl, ◌∙◌}
+use mathlib.Core.Path.{◌≡◌, refl}
 use mathlib.Core.Bool.{Bool, true, false, not, ◌&&◌}
 use Prim.Native.Nat.{ℕ}
 use borrow.Author.Tests.{not-false}

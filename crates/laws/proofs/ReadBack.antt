@@ -32,13 +32,13 @@ use Rattle.laws.proofs.HeldWrites.{held_written}
 use Rattle.laws.proofs.StoredValues.{stored_of, value_stored}
 
 -- what stands at a place that both lists have
-get_d_zip : {A B C : Type 0} (f : A → B → C) (l : List A) (m : List B) (i : ℕ) (a : A) (b : B) (c : C) → i < length l → i < length m
+get_or_zip : {A B C : Type 0} (f : A → B → C) (l : List A) (m : List B) (i : ℕ) (a : A) (b : B) (c : C) → i < length l → i < length m
     → get_or (zip_with f l m) i c ≡ f (get_or l i a) (get_or m i b)
 unfolding zip_with
-get_d_zip f [] m i a b c h k = absurd (omega arith)
-get_d_zip f (x ∷ l) [] i a b c h k = absurd (omega arith)
-get_d_zip f (x ∷ l) (y ∷ m) zero a b c h k = refl
-get_d_zip f (x ∷ l) (y ∷ m) (suc i) a b c h k = get_d_zip f l m i a b c (le_of_suc-le-suc h) (le_of_suc-le-suc k)
+get_or_zip f [] m i a b c h k = absurd (omega arith)
+get_or_zip f (x ∷ l) [] i a b c h k = absurd (omega arith)
+get_or_zip f (x ∷ l) (y ∷ m) zero a b c h k = refl
+get_or_zip f (x ∷ l) (y ∷ m) (suc i) a b c h k = get_or_zip f l m i a b c (le_of_suc-le-suc h) (le_of_suc-le-suc k)
 
 -- a signed register that the write touches reads back where it stands on its circle
 signed_shown : (r : Register) (w : Write) (z : ℤ)
@@ -103,5 +103,5 @@ read_after_write w c held accepted none unmoved i h =
     value_stored (write_answer w c).coprocessor (held_written w c held) (write_valid w c valid) i
     ∙ ap (λ (d : Coprocessor). get_or (stored_of d) i 0) after
     ∙ ap (λ (l : List ℕ). get_or l i 0) (stored_latched w c held unmoved)
-    ∙ get_d_zip (shown_after w) registers (stored_of c) i (whole 0 0) 0 0 h h
+    ∙ get_or_zip (shown_after w) registers (stored_of c) i (whole 0 0) 0 0 h h
     ∙ ap (shown_after w (register_at i)) (sym (value_stored c held valid i))

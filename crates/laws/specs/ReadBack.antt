@@ -1,10 +1,9 @@
 -- What each listed register reads back, and how a write changes it.
-use Rattle.std.specs.Prelude.{◌≡◌, ℕ, ◌^◌, ◌≤◌, List, pos, get_or}
+use Rattle.std.specs.Prelude.{◌≡◌, ℕ, ◌^◌, ◌≤◌, pos, get_or}
 use Rattle.numbers.specs.Choose.{choose}
 use Rattle.numbers.specs.Bytes.{low, latched}
 use Rattle.numbers.specs.Circles.{residue, circle}
 use Rattle.numbers.specs.declared.bytes.Write.{Write}
-use Rattle.pixels.specs.declared.Map.{Map}
 use Rattle.parts.specs.declared.shapes.Registers.{Registers}
 use Rattle.parts.specs.Registers.{Reduction, Whole, Low, Circle, Register, registers, whole}
 use Rattle.parts.specs.Takes.{touched}

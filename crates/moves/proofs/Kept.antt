@@ -88,17 +88,17 @@ source_in s pen h = asked s.source.used _ (search (h, and_left))
 pub pattern_in : (s : Travel) (pen : Pen) → pointers_inside s pen ≡ true → s.pattern.used ≡ true → is_inside s.pattern.map pen.pointers.pattern ≡ true
 pattern_in s pen h = asked s.pattern.used _ (search (h, and_right))
 
-where-used : (used : Bool) (map : Map) (p q : Point) → (is_inside map p ≡ true → is_inside map q ≡ true)
+where_used : (used : Bool) (map : Map) (p q : Point) → (is_inside map p ≡ true → is_inside map q ≡ true)
     → (not used || is_inside map p) ≡ true → (not used || is_inside map q) ≡ true
-where-used true map p q keeps h = keeps h
-where-used false map p q keeps h = refl
+where_used true map p q keeps h = keeps h
+where_used false map p q keeps h = refl
 
 pub pointers_moved : (s : Travel) (pen : Pen) → pointers_inside s pen ≡ true → pointers_inside s (moved s pen) ≡ true
 pointers_moved s pen h =
     let p = pen.pointers in
     let q = (moved s pen).pointers in
-    let source = where-used s.source.used s.source.map p.source q.source (source_inside s pen) (search and_left) in
-    let pattern = where-used s.pattern.used s.pattern.map p.pattern q.pattern (pattern_inside s pen) (search and_right) in
+    let source = where_used s.source.used s.source.map p.source q.source (source_inside s pen) (search and_left) in
+    let pattern = where_used s.pattern.used s.pattern.map p.pattern q.pattern (pattern_inside s pen) (search and_right) in
     search and_both
 
 -- ---- the destination on its circle, and E on its own

@@ -25,8 +25,8 @@ sub_cases P a b less more = go (ltb a b) refl
 
 -- ---- remainders of natural numbers
 
-pub mod-mod-mul : (n q s : ℕ) → 0 < q → 0 < s → n % (q * s) % s ≡ n % s
-mod-mod-mul n q s someq some = rw (mod-mul n someq some, mul-add-mod_self_right, mod-mod)
+pub mod_mod_mul : (n q s : ℕ) → 0 < q → 0 < s → n % (q * s) % s ≡ n % s
+mod_mod_mul n q s someq some = rw (mod-mul n someq some, mul-add-mod_self_right, mod-mod)
 
 pub forth_inside : (s k x : ℕ) → x + k < s → forth s k x ≡ x + k
 unfolding forth
@@ -202,12 +202,12 @@ module _ (s : ℕ) (some : 0 < s) where
   -- a remainder by a multiple of the size keeps the remainder by the size
   pub residue_mod : (q : ℕ) → 0 < q → (z : ℤ) → residue (q * s) z % s ≡ residue s z
   unfolding residue
-  residue_mod q someq (pos n) = mod-mod-mul n q s someq some
+  residue_mod q someq (pos n) = mod_mod_mul n q s someq some
   residue_mod q someq (negsuc n) =
       let all : 0 < q * s = mul-pos someq some in
       let low : n % (q * s) < q * s = mod-lt n all in
       let form : q * s - 1 - n % (q * s) ≡ q * s - suc (n % (q * s)) = omega arith in
-      rw (form, comp_mod q (n % (q * s)) low, mod-mod-mul n q s someq some)
+      rw (form, comp_mod q (n % (q * s)) low, mod_mod_mul n q s someq some)
 
 -- ---- the circle of a signed register
 

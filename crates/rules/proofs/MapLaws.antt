@@ -11,14 +11,14 @@ use Rattle.pixels.proofs.Maps.{bits_le}
 use Rattle.rules.specs.Maps.{fresh_map, map_at}
 
 -- within a list the default is not read
-get_d_default : {A : Type 0} (l : List A) (i : ℕ) (d e : A) → i < length l → get_or l i d ≡ get_or l i e
-get_d_default [] i d e h = absurd (omega arith)
-get_d_default (x ∷ l) zero d e h = refl
-get_d_default (x ∷ l) (suc i) d e h = get_d_default l i d e (le_of_suc-le-suc h)
+get_or_default : {A : Type 0} (l : List A) (i : ℕ) (d e : A) → i < length l → get_or l i d ≡ get_or l i e
+get_or_default [] i d e h = absurd (omega arith)
+get_or_default (x ∷ l) zero d e h = refl
+get_or_default (x ∷ l) (suc i) d e h = get_or_default l i d e (le_of_suc-le-suc h)
 
 pub map_at_lem : (maps : List Map) (field : ℕ) (d : Map) → length maps ≡ 4 → map_at maps field ≡ get_or maps (field % 4) d
 unfolding map_at
-map_at_lem maps field d four = get_d_default maps (field % 4) fresh_map d (omega arith)
+map_at_lem maps field d four = get_or_default maps (field % 4) fresh_map d (omega arith)
 
 pub needed_le : (map : Map) → map.width < 65536 → map.height < 65536 → needed_of map ≤ 65536 * 65536
 unfolding needed_of

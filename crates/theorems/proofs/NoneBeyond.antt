@@ -31,10 +31,10 @@ use Rattle.theorems.proofs.RunCalls.{accepts, run_accepted, accepted_again}
 use Rattle.laws.proofs.ValidWrites.{write_valid}
 
 -- a drawing that is in hand after some positions was so before them
-in-hand : (s : Setup) (pen : Pen) (memory : List ℕ) (n : ℕ) → unfinished (after s n (begun pen memory)).pen.drawing ≡ true
+in_hand_lem : (s : Setup) (pen : Pen) (memory : List ℕ) (n : ℕ) → unfinished (after s n (begun pen memory)).pen.drawing ≡ true
     → unfinished pen.drawing ≡ true
 unfolding begun
-in-hand s pen memory n going = by (unfinished pen.drawing) refl
+in_hand_lem s pen memory n going = by (unfinished pen.drawing) refl
   where
     by : (t : Bool) → unfinished pen.drawing ≡ t → t ≡ true
     by true e = refl
@@ -46,7 +46,7 @@ unfolding begun ran_of NoneBeyond
 run_none_beyond c memory accepted n going =
     let t : Run = begun (pen_of c) memory in
     rw (length_after (setup_of c) n t)
-    (safe_within _ _ _ (safe_after (setup_of c) (length memory) n t (run_safe c memory accepted (in-hand (setup_of c) (pen_of c) memory n going))))
+    (safe_within _ _ _ (safe_after (setup_of c) (length memory) n t (run_safe c memory accepted (in_hand_lem (setup_of c) (pen_of c) memory n going))))
 
 -- and whatever bytes lie behind the memory, the drawing neither sees nor changes them
 pub behind_unseen : (c : Coprocessor) (memory rest : List ℕ) (n : ℕ) → is_accepted (run_refusal c memory) ≡ true

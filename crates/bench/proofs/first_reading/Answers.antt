@@ -1,5 +1,4 @@
 -- `first_reading` is the definition, with the first bench.
-use borrow.Author.Rules.{rules}
 use Rattle.bench.specs.Played.{first_reading}
 use Rattle.bench.proofs.first_reading.Goals as goal
 

@@ -1,7 +1,6 @@
 -- `hand_on` leaves all but the text that waits.
 use mathlib.Core.Path.{refl, sym}
 use lib.Seq.{length-take-le}
-use borrow.Author.Rules.{rules}
 use Rattle.bench.specs.Inner.{emptied}
 use Rattle.bench.proofs.hand_on.Goals as goal
 

@@ -1,7 +1,6 @@
 -- `play` reads from the first session on to the input's end, and what it handed on is what is to be printed.
-use mathlib.Core.Path.{◌≡◌, ap}
+use mathlib.Core.Path.{ap}
 use mathlib.Core.List.{[]}
-use borrow.Author.Rules.{rules}
 use Rattle.bench.specs.declared.Reading.{Reading}
 use Rattle.bench.specs.Inner.{session_of, first_bench, emptied, with_text}
 use Rattle.bench.specs.Played.{first_reading, progress_of, Reads, first_progress}

@@ -4,11 +4,9 @@ use mathlib.Core.Bool.{Bool, true}
 use Prim.Native.Nat.{ℕ, ◌<◌}
 use native.Mathlib.Omega.{arith}
 use lib.Dec.{ltb}
-use lib.ListN.{length}
-use borrow.Author.Rules.{rules}
 use borrow.Author.Tests.{ltb-true}
 use Rattle.numbers.proofs.Choices.{and_right}
-use Rattle.bench.specs.Played.{reads_on, Progress, progress_of, turned, Reads, none, again}
+use Rattle.bench.specs.Played.{reads_on, Progress, progress_of, turned, none, again}
 use Rattle.bench.proofs.read_all.Goals as goal
 
 pub loop-piece-init : goal.loop-piece-init

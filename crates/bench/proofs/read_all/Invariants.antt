@@ -1,14 +1,7 @@
 -- `read_all` reads while it reads on; the measure is the reads that are left.
-use mathlib.Core.Path.{◌≡◌, refl, ap, sym, ◌∙◌}
-use mathlib.Core.Bool.{Bool, true}
-use Prim.Native.Nat.{ℕ, ◌<◌}
-use native.Mathlib.Omega.{arith}
-use lib.Dec.{ltb}
+use mathlib.Core.Path.{◌≡◌}
 use lib.ListN.{length}
-use borrow.Author.Rules.{rules}
-use borrow.Author.Tests.{ltb-true}
-use Rattle.numbers.proofs.Choices.{and_right}
-use Rattle.bench.specs.Played.{reads_on, Progress, progress_of, turned, Reads, none, again}
+use Rattle.bench.specs.Played.{progress_of, Reads}
 use Rattle.bench.proofs.read_all.Given as goal
 
 abbrev pub invariant-loop-piece : goal.invariant-loop-piece

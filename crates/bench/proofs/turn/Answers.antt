@@ -4,7 +4,6 @@ use mathlib.Core.List.{[]}
 use Prim.Native.Nat.{◌-◌}
 use native.Mathlib.Omega.{arith}
 use lib.Dec.{ltb}
-use borrow.Author.Rules.{rules}
 use Rattle.bench.specs.declared.session.Bench.{Bench}
 use Rattle.bench.specs.Inner.{session_of, emptied, with_text}
 use Rattle.bench.specs.Played.{progress_of, turned}

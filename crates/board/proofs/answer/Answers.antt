@@ -1,6 +1,5 @@
 -- `answer` is the refusal in the high word and the value in the low: both fit.
 use Rattle.board.specs.Calls.{call_answer}
-use borrow.Author.Rules.{rules}
 use Rattle.board.proofs.answer.Goals as goal
 
 pub returns : goal.returns

@@ -1,10 +1,7 @@
 -- `xga_fresh` lays the fresh state, which is valid, into a buffer of an image's length; its own refusal comes before that of another length.
--- over a buffer of an image's length, the number is that of the fresh state
 use mathlib.Core.Path.{◌≡◌, refl, sym, ap, ◌∙◌}
-use mathlib.Core.Bool.{true}
 use mathlib.Core.List.{List}
 use Prim.Native.Nat.{ℕ}
-use lib.Dec.{eqb}
 use lib.ListN.{length}
 use borrow.Author.Tests.{eq-eqb, ne_eqb}
 use Rattle.numbers.specs.Choose.{choose}
@@ -12,15 +9,15 @@ use Rattle.numbers.proofs.Choices.{by_test}
 use Rattle.parts.specs.Refusals.{is_accepted, refusal_number}
 use Rattle.image.specs.Layout.{image_length}
 use Rattle.coprocessor.specs.declared.Written.{Written}
-use Rattle.coprocessor.specs.Fresh.{size_holds, fresh_of, fresh_answer}
+use Rattle.coprocessor.specs.Fresh.{size_holds, fresh_answer}
 use Rattle.coprocessor.specs.Images.{image_of, saves, save_refusal, saved}
 use Rattle.laws.proofs.Refused.{fresh_valid, fresh_answer_valid}
 use Rattle.laws.proofs.LoadedLaws.{saved_valid}
 use Rattle.board.specs.Calls.{fresh_number, fresh_image}
-use borrow.Author.Rules.{rules}
 use Rattle.board.proofs.xga_fresh.Goals as goal
 use Rattle.board.proofs.xga_fresh.Goals.{After-number-else-accepts, Then-accepts}
 
+-- over a buffer of an image's length, the number is that of the fresh state
 long-number : (image : List ℕ) (size : ℕ) → length image ≡ image_length → refusal_number (fresh_answer size).refusal ≡ fresh_number image size
 unfolding fresh_number fresh_answer saves save_refusal
 long-number image size long =

@@ -1,7 +1,6 @@
 -- `xga_load` says whether the image loads: its number is that of the load's refusal.
 use Rattle.board.specs.Calls.{load_number}
 use Rattle.coprocessor.proofs.Opened.{open_number}
-use borrow.Author.Rules.{rules}
 use Rattle.board.proofs.xga_load.Goals as goal
 
 pub returns : goal.returns

@@ -1,17 +1,12 @@
 -- `xga_read` is the read of the record that the image is, or refusal 10.
-use mathlib.Core.Path.{◌≡◌, sym, ap, ◌∙◌}
-use mathlib.Core.Bool.{true}
-use borrow.Author.Tests.{not-true, not-false}
-use Rattle.parts.specs.Refusals.{is_accepted}
+use mathlib.Core.Path.{sym, ap, ◌∙◌}
 use Rattle.coprocessor.specs.declared.Coprocessor.{Coprocessor}
 use Rattle.coprocessor.specs.declared.Written.{Written}
 use Rattle.coprocessor.specs.declared.Found.{Found}
 use Rattle.coprocessor.specs.Reads.{read_answer}
-use Rattle.coprocessor.specs.Images.{loads, loaded}
-use Rattle.coprocessor.proofs.Opened.{open_accepts, open_record, open_refused}
+use Rattle.coprocessor.proofs.Opened.{open_refused}
 use Rattle.laws.proofs.LoadedLaws.{loaded_valid}
 use Rattle.board.specs.Calls.{call_answer, read_number}
-use borrow.Author.Rules.{rules}
 use Rattle.board.proofs.xga_read.Goals as goal
 use Rattle.board.proofs.Begun.{told, begun}
 

@@ -1,18 +1,14 @@
 -- `xga_run` is the run of the record that the image is, laid back, or refusal 10 with image and memory as they were; the record is valid before and after.
-use mathlib.Core.Path.{◌≡◌, sym, ap, ◌∙◌}
-use mathlib.Core.Bool.{true}
-use borrow.Author.Tests.{not-true, not-false}
-use Rattle.parts.specs.Refusals.{is_accepted}
+use mathlib.Core.Path.{sym, ap, ◌∙◌}
 use Rattle.coprocessor.specs.declared.Coprocessor.{Coprocessor}
 use Rattle.coprocessor.specs.declared.Written.{Written}
 use Rattle.coprocessor.specs.declared.Drawn.{Drawn}
 use Rattle.coprocessor.specs.Runs.{run_answer, run_memory}
-use Rattle.coprocessor.specs.Images.{image_of, loads, loaded}
-use Rattle.coprocessor.proofs.Opened.{open_accepts, open_record, open_refused}
+use Rattle.coprocessor.specs.Images.{image_of, loaded}
+use Rattle.coprocessor.proofs.Opened.{open_refused}
 use Rattle.laws.proofs.LoadedLaws.{loads_length, loaded_valid, saved_valid}
 use Rattle.laws.proofs.RunValid.{run_valid}
 use Rattle.board.specs.Calls.{call_answer, run_number, run_image, run_bytes}
-use borrow.Author.Rules.{rules}
 use Rattle.board.proofs.xga_run.Goals as goal
 use Rattle.board.proofs.Begun.{told, begun}
 

@@ -1,21 +1,17 @@
 -- `xga_write` is the write of the record that the image is, laid back where it is accepted, or refusal 10 and the image as it was.
-use mathlib.Core.Path.{◌≡◌, sym, ap, ◌∙◌}
-use mathlib.Core.Bool.{true}
+use mathlib.Core.Path.{sym, ap, ◌∙◌}
 use Prim.Native.Nat.{ℕ, ◌<◌}
 use lib.ListN.{get_or}
-use borrow.Author.Tests.{not-true, not-false}
 use Rattle.numbers.specs.declared.bytes.Write.{Write}
 use Rattle.parts.specs.Refusals.{is_accepted, refusal_number}
 use Rattle.coprocessor.specs.declared.Coprocessor.{Coprocessor}
 use Rattle.coprocessor.specs.declared.Written.{Written}
 use Rattle.coprocessor.specs.Writes.{write_answer}
-use Rattle.coprocessor.specs.Images.{image_of, loads, loaded, saved}
-use Rattle.coprocessor.proofs.Opened.{open_accepts, open_record}
+use Rattle.coprocessor.specs.Images.{image_of, loaded, saved}
 use Rattle.laws.proofs.LoadedLaws.{loads_length, loaded_valid, saved_valid, save_load}
 use Rattle.laws.proofs.Refused.{write_refused}
 use Rattle.laws.proofs.ValidWrites.{write_valid}
 use Rattle.board.specs.Calls.{write_number, write_image}
-use borrow.Author.Rules.{rules}
 use Rattle.board.proofs.xga_write.Goals as goal
 use Rattle.board.proofs.Begun.{told, begun}
 

@@ -1,6 +1,5 @@
 -- `end_input` lays the memory after the last line's answer.
 use native.Mathlib.Omega.{arith}
-use borrow.Author.Rules.{rules}
 use Rattle.bench.specs.Inner.{session_of, with_text, input_ended}
 use Rattle.bench.proofs.session.end_input.Goals as goal
 

@@ -1,7 +1,6 @@
 -- `end_last` is the definition on both sides of its test.
 use native.Mathlib.Omega.{arith}
 use borrow.Author.Tests.{lt-ltb, le-ltb}
-use borrow.Author.Rules.{rules}
 use Rattle.bench.specs.Inner.{session_of, last_ended}
 use Rattle.bench.proofs.session.end_last.Goals as goal
 

@@ -1,6 +1,4 @@
 -- `end_line` does the command that the buffer holds, and each part of the session is what the calls promise.
-use native.Mathlib.Omega.{arith}
-use borrow.Author.Rules.{rules}
 use Rattle.bench.specs.Inner.{session_of, line_ended}
 use Rattle.bench.proofs.session.end_line.Goals as goal
 

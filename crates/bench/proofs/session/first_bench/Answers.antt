@@ -1,6 +1,4 @@
 -- `first_bench` is the definition, its record the fresh one.
-use mathlib.Core.Path.{ap}
-use borrow.Author.Rules.{rules}
 use Rattle.bench.specs.Inner.{first_bench}
 use Rattle.bench.proofs.session.first_bench.Goals as goal
 

@@ -1,7 +1,6 @@
 -- `hear_byte` ends the line at a newline, and gathers any other byte.
 use native.Mathlib.Omega.{arith}
 use borrow.Author.Tests.{eq-eqb, ne_eqb}
-use borrow.Author.Rules.{rules}
 use Rattle.bench.specs.Inner.{session_of, byte_gathered, byte_taken}
 use Rattle.bench.proofs.session.hear_byte.Goals as goal
 

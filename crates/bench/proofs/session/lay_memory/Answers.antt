@@ -1,7 +1,5 @@
 -- `lay_memory` lays the memory's text after what waits.
-use mathlib.Core.Path.{◌≡◌}
 use native.Mathlib.Omega.{arith}
-use borrow.Author.Rules.{rules}
 use Rattle.console.proofs.TextLaws.{laid_after}
 use Rattle.bench.proofs.session.lay_memory.Goals as goal
 

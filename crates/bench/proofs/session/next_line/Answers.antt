@@ -1,6 +1,5 @@
 -- `next_line` is the definition on both sides of its test.
 use borrow.Author.Tests.{lt-ltb, le-ltb}
-use borrow.Author.Rules.{rules}
 use Rattle.bench.specs.Printed.{line_after}
 use Rattle.bench.proofs.session.next_line.Goals as goal
 

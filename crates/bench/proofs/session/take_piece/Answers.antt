@@ -1,10 +1,6 @@
 -- `take_piece` takes byte after byte: those taken and those left make the whole, and each has room for an answer.
-use mathlib.Core.Path.{◌≡◌, refl, sym, ◌∙◌}
-use Prim.Native.Nat.{◌+◌, ◌-◌, ◌*◌, ◌≤◌}
+use mathlib.Core.Path.{refl, sym, ◌∙◌}
 use native.Mathlib.Omega.{arith}
-use lib.ListN.{length, drop}
-use borrow.Author.Rules.{rules}
-use Rattle.bench.specs.Inner.{session_of, bytes_taken}
 use Rattle.bench.proofs.SessionLaws.{bytes_on, bytes_end}
 use Rattle.bench.proofs.session.take_piece.Goals as goal
 

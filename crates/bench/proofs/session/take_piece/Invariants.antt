@@ -1,11 +1,8 @@
 -- `take_piece` takes byte after byte: those taken and those left make the whole, and each has room for an answer.
-use mathlib.Core.Path.{◌≡◌, refl, sym, ◌∙◌}
+use mathlib.Core.Path.{◌≡◌}
 use Prim.Native.Nat.{◌+◌, ◌-◌, ◌*◌, ◌≤◌}
-use native.Mathlib.Omega.{arith}
 use lib.ListN.{length, drop}
-use borrow.Author.Rules.{rules}
 use Rattle.bench.specs.Inner.{session_of, bytes_taken}
-use Rattle.bench.proofs.SessionLaws.{bytes_on, bytes_end}
 use Rattle.bench.proofs.session.take_piece.Given as goal
 
 abbrev pub invariant-loop-i : goal.invariant-loop-i

@@ -1,6 +1,5 @@
 -- `obey` is the definition at each kind of command.
 use mathlib.Core.Path.{refl}
-use borrow.Author.Rules.{rules}
 use Rattle.console.specs.Answers.{told_of, memory_after}
 use Rattle.console.proofs.answers.obey.Goals as goal
 

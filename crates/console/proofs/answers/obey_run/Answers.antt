@@ -1,6 +1,5 @@
 -- `obey_run` is the run's answer, with its refusal or its positions told.
 use mathlib.Core.Path.{ap, ◌∙◌}
-use borrow.Author.Rules.{rules}
 use Rattle.coprocessor.specs.declared.Drawn.{Drawn}
 use Rattle.console.specs.Answers.{outcome_of, run_told}
 use Rattle.console.proofs.answers.obey_run.Goals as goal

@@ -1,6 +1,5 @@
 -- `obey_write` is the write's answer, with its refusal told.
 use mathlib.Core.Path.{ap, ◌∙◌}
-use borrow.Author.Rules.{rules}
 use Rattle.coprocessor.specs.declared.Written.{Written}
 use Rattle.console.specs.Answers.{outcome_of, write_told}
 use Rattle.console.proofs.answers.obey_write.Goals as goal

@@ -1,5 +1,4 @@
 -- `outcome_of` is the definition on both sides of its test.
-use borrow.Author.Rules.{rules}
 use Rattle.console.specs.Answers.{outcome_of}
 use Rattle.console.proofs.answers.outcome_of.Goals as goal
 

@@ -1,9 +1,7 @@
 -- `command_of` goes by the first word, and the words of what follows are the others.
--- the line by its first word and what follows
 use mathlib.Core.Path.{◌≡◌, sym, ◌∙◌}
 use native.Mathlib.Nat.{pos_of_ne-zero}
 use Rattle.numbers.specs.Choose.{choose}
-use borrow.Author.Rules.{rules}
 use Rattle.console.specs.Words.{line_words}
 use Rattle.console.specs.declared.Command.TheVariants.{Neither}
 use Rattle.console.specs.Commands.{is_letter, write_from, run_from, command_from, command_of}
@@ -11,6 +9,7 @@ use Rattle.console.proofs.CommandLaws.{command_none, command_words}
 use Rattle.console.proofs.commands.command_of.Goals as goal
 use Rattle.console.proofs.commands.command_of.Goals.{After-run_command, After-write_command, Else-is_letter-2}
 
+-- the line by its first word and what follows
 parted : (c : After-run_command) → let words = line_words c.next-args.result.now in
     command_of c.args.line.now
     ≡ choose c.is_letter.result (write_from words) (choose (is_letter 82 114 c.word-name.result.now) (run_from words) Neither)

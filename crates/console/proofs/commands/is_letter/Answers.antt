@@ -1,6 +1,5 @@
 -- `is_letter` is the definition at a word of one byte, and false at any other.
 use borrow.Author.Tests.{ne_eqb, eq-eqb}
-use borrow.Author.Rules.{rules}
 use Rattle.console.proofs.CommandLaws.{letter_long, letter_one}
 use Rattle.console.proofs.commands.is_letter.Goals as goal
 

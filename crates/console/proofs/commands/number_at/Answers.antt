@@ -1,5 +1,4 @@
 -- `number_at` is the number that the word at the start is.
-use borrow.Author.Rules.{rules}
 use Rattle.console.proofs.commands.number_at.Goals as goal
 
 pub returns : goal.returns

@@ -1,6 +1,5 @@
 -- `run_command` finds one word and what follows: if nothing does, it is the only word, and otherwise there are more.
 use native.Mathlib.Nat.{pos_of_ne-zero}
-use borrow.Author.Rules.{rules}
 use Rattle.console.proofs.CommandLaws.{run_one, run_more}
 use Rattle.console.proofs.commands.run_command.Goals as goal
 

@@ -1,5 +1,4 @@
 -- `run_of` is the definition at each of its cases.
-use borrow.Author.Rules.{rules}
 use Rattle.console.specs.Commands.{run_of}
 use Rattle.console.proofs.commands.run_of.Goals as goal
 

@@ -1,6 +1,5 @@
 -- `write_command` finds three words and what follows: if nothing does, they are all the words, and otherwise there are more than three.
 use native.Mathlib.Nat.{pos_of_ne-zero}
-use borrow.Author.Rules.{rules}
 use Rattle.console.proofs.CommandLaws.{write_three, write_more}
 use Rattle.console.proofs.commands.write_command.Goals as goal
 

@@ -1,5 +1,4 @@
 -- `write_of` is the definition at each of its cases.
-use borrow.Author.Rules.{rules}
 use Rattle.console.specs.Commands.{write_of}
 use Rattle.console.proofs.commands.write_of.Goals as goal
 

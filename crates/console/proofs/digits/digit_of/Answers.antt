@@ -2,7 +2,6 @@
 use mathlib.Core.Bool.{and-false}
 use native.Mathlib.Omega.{arith}
 use borrow.Author.Tests.{le-leb, lt-leb}
-use borrow.Author.Rules.{rules}
 use Rattle.console.specs.Digits.{digit_of}
 use Rattle.console.proofs.digits.digit_of.Goals as goal
 

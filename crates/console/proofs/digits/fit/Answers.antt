@@ -1,8 +1,6 @@
 -- `fit` is the definition at each of its cases.
-use mathlib.Core.Path.{◌∙◌}
 use native.Mathlib.Nat.{min-eq_left, min-eq_right, le_of_lt}
 use lib.Bits.{and_mask}
-use borrow.Author.Rules.{rules}
 use Rattle.console.specs.Digits.{fitted}
 use Rattle.console.proofs.digits.fit.Goals as goal
 

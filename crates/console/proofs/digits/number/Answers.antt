@@ -1,11 +1,7 @@
 -- `number` takes digit after digit into the number: with those that follow it stays the word's.
-use mathlib.Core.Path.{◌≡◌, sym, ◌∙◌}
-use Prim.Native.Nat.{◌+◌, ◌-◌, ◌^◌, ◌≤◌, ◌<◌}
+use mathlib.Core.Path.{sym, ◌∙◌}
 use native.Mathlib.Nat.{pos_of_ne-zero}
 use native.Mathlib.Omega.{arith}
-use lib.ListN.{length, drop}
-use borrow.Author.Rules.{rules}
-use Rattle.console.specs.Digits.{number_from, word_number}
 use Rattle.console.proofs.DigitLaws.{fitted_lt, number_end, number_stray, number_on, number_begins, number_none, room}
 use Rattle.console.proofs.digits.number.Goals as goal
 

@@ -2,7 +2,6 @@
 use mathlib.Core.Path.{sym}
 use lib.Seq.{length-take-le}
 use borrow.Author.Tests.{le-leb, lt-leb}
-use borrow.Author.Rules.{rules}
 use Rattle.console.specs.Gathered.{command_in}
 use Rattle.console.proofs.gather.command_in.Goals as goal
 

@@ -1,5 +1,5 @@
 -- `put_decimal` lays the digits before the last by calling itself, then the last.
-use mathlib.Core.Path.{refl, sym, ◌∙◌}
+use mathlib.Core.Path.{refl, sym}
 use Prim.Native.Nat.{◌-◌, ◌/◌}
 use native.Mathlib.Nat.{add-zero, pos_of_ne-zero}
 use native.Mathlib.Omega.{arith}

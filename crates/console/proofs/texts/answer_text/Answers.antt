@@ -2,7 +2,6 @@
 use mathlib.Core.Path.{refl}
 use Prim.Native.Nat.{zero-le}
 use native.Mathlib.Omega.{arith}
-use borrow.Author.Rules.{rules}
 use Rattle.console.specs.Texts.{answer_text, okay, no, line, unread, newline}
 use Rattle.console.proofs.TextLaws.{counted}
 use Rattle.console.proofs.texts.answer_text.Goals as goal

@@ -1,6 +1,5 @@
 -- `hex_digit` is the definition on both sides of its test.
 use borrow.Author.Tests.{lt-ltb, le-ltb}
-use borrow.Author.Rules.{rules}
 use Rattle.console.specs.Texts.{hex_digit}
 use Rattle.console.proofs.texts.hex_digit.Goals as goal
 

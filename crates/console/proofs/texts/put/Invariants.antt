@@ -1,11 +1,8 @@
 -- `put` lays byte after byte: those laid and those left make the whole.
-use mathlib.Core.Path.{◌≡◌, refl, sym, ◌∙◌}
+use mathlib.Core.Path.{◌≡◌}
 use Prim.Native.Nat.{◌+◌, ◌-◌, ◌≤◌}
-use native.Mathlib.Nat.{add-zero}
-use native.Mathlib.Omega.{arith}
-use lib.ListN.{length, drop, length-set, drop_of_length-le}
+use lib.ListN.{length, drop}
 use lib.Seq.{sets}
-use Rattle.console.proofs.TextLaws.{sets_next}
 use Rattle.console.proofs.texts.put.Given as goal
 
 abbrev pub invariant-loop-i : goal.invariant-loop-i

@@ -2,7 +2,6 @@
 use Prim.Native.Nat.{◌*◌}
 use native.Mathlib.Omega.{arith}
 use lib.ListN.{length-set}
-use borrow.Author.Rules.{rules}
 use Rattle.console.specs.Texts.{byte_text}
 use Rattle.console.proofs.TextLaws.{three_sets}
 use Rattle.console.proofs.texts.put_byte.Goals as goal

@@ -1,10 +1,6 @@
 -- `put_memory` lays byte after byte of the memory in hex: those laid and those left make the whole.
-use mathlib.Core.Path.{◌≡◌, refl, sym, ◌∙◌}
-use Prim.Native.Nat.{◌-◌, ◌*◌, ◌≤◌}
+use mathlib.Core.Path.{refl, sym, ◌∙◌}
 use native.Mathlib.Omega.{arith}
-use lib.ListN.{length, drop}
-use lib.Seq.{sets}
-use Rattle.console.specs.Texts.{bytes_text, memory_text}
 use Rattle.console.proofs.TextLaws.{memory_begins, memory_on, memory_ends}
 use Rattle.console.proofs.texts.put_memory.Goals as goal
 

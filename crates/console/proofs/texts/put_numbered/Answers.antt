@@ -1,7 +1,6 @@
 -- `put_numbered` lays three pieces, each from the end of the one before.
 use mathlib.Core.Path.{sym}
 use native.Mathlib.Omega.{arith}
-use borrow.Author.Rules.{rules}
 use Rattle.console.proofs.TextLaws.{decimal_length, numbered_laid, numbered_length}
 use Rattle.console.proofs.texts.put_numbered.Goals as goal
 

@@ -1,5 +1,4 @@
 -- `matches` asks whether the byte is a blank, or whether it is none.
-use borrow.Author.Rules.{rules}
 use Rattle.console.specs.Inner.{matches}
 use Rattle.console.proofs.words.matches.Goals as goal
 

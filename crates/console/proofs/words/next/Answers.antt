@@ -1,5 +1,4 @@
 -- `next` is what follows the word at the start, without its blanks.
-use borrow.Author.Rules.{rules}
 use Rattle.console.specs.Inner.{next_of}
 use Rattle.console.proofs.ScanLaws.{tail, span_le}
 use Rattle.console.proofs.words.next.Goals as goal

@@ -1,5 +1,4 @@
 -- `skip` is what is left after the blanks at the start.
-use borrow.Author.Rules.{rules}
 use Rattle.console.specs.Inner.{skipped}
 use Rattle.console.proofs.ScanLaws.{tail, span_le}
 use Rattle.console.proofs.words.skip.Goals as goal

@@ -1,11 +1,6 @@
 -- `span` counts the bytes that match: the count so far and the span of what is left make the whole.
-use mathlib.Core.Path.{◌≡◌, sym, ◌∙◌}
-use Prim.Native.Nat.{◌+◌, ◌-◌, ◌≤◌}
+use mathlib.Core.Path.{sym, ◌∙◌}
 use native.Mathlib.Omega.{arith}
-use lib.ListN.{length, drop}
-use borrow.Author.Rules.{rules}
-use borrow.Author.Tests.{not-true, not-false}
-use Rattle.console.specs.Inner.{span}
 use Rattle.console.proofs.ScanLaws.{span_end, span_stop, span_on}
 use Rattle.console.proofs.words.span.Goals as goal
 

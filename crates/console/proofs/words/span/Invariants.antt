@@ -1,12 +1,8 @@
 -- `span` counts the bytes that match: the count so far and the span of what is left make the whole.
-use mathlib.Core.Path.{◌≡◌, sym, ◌∙◌}
+use mathlib.Core.Path.{◌≡◌}
 use Prim.Native.Nat.{◌+◌, ◌-◌, ◌≤◌}
-use native.Mathlib.Omega.{arith}
 use lib.ListN.{length, drop}
-use borrow.Author.Rules.{rules}
-use borrow.Author.Tests.{not-true, not-false}
 use Rattle.console.specs.Inner.{span}
-use Rattle.console.proofs.ScanLaws.{span_end, span_stop, span_on}
 use Rattle.console.proofs.words.span.Given as goal
 
 abbrev pub invariant-loop-i : goal.invariant-loop-i

@@ -1,7 +1,6 @@
 -- `word` is as many bytes as are no blanks at the start.
 use mathlib.Core.Path.{sym}
 use lib.Seq.{length-take-le}
-use borrow.Author.Rules.{rules}
 use Rattle.console.specs.Inner.{word_of}
 use Rattle.console.proofs.ScanLaws.{span_le}
 use Rattle.console.proofs.words.word.Goals as goal

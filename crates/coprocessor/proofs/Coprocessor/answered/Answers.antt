@@ -1,7 +1,6 @@
 -- `answered` starts the drawing that an accepted write starts, and hands the record back of a refused one.
 use mathlib.Core.Path.{◌≡◌, sym, ap, ◌∙◌}
 use mathlib.Core.Bool.{true}
-use borrow.Author.Tests.{not-true, not-false}
 use Rattle.numbers.specs.Choose.{choose}
 use Rattle.numbers.proofs.Choices.{choose_true, choose_false}
 use Rattle.parts.specs.Refusals.{is_accepted}

@@ -5,7 +5,6 @@ use Rattle.numbers.specs.Choose.{choose}
 use Rattle.parts.specs.Refusals.{is_accepted}
 use Rattle.coprocessor.specs.Reads.{value_at, read_refusal, read_answer}
 use Rattle.coprocessor.proofs.WriteLaws.{read_placed}
-use borrow.Author.Rules.{rules}
 use Rattle.coprocessor.proofs.Coprocessor.found.Goals as goal
 use Rattle.coprocessor.proofs.Coprocessor.found.Goals.{After-accepts}
 

@@ -1,7 +1,6 @@
 -- `fresh` answers by the size rule: each branch is a case of the definition.
 use Rattle.coprocessor.specs.Fresh.{fresh_answer}
 use mathlib.Core.Path.{sym, ◌∙◌}
-use borrow.Author.Rules.{rules}
 use Rattle.coprocessor.proofs.Coprocessor.fresh.Goals as goal
 
 pub returns-then-size_holds : goal.returns-then-size_holds

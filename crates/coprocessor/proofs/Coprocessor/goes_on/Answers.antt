@@ -1,8 +1,6 @@
 -- `goes_on` is the rule of a drawing in hand: an idle record passes, any other by its counters, the start rules and its pointers.
 use mathlib.Core.Path.{sym, ◌∙◌}
-use borrow.Author.Tests.{not-true, not-false}
 use Rattle.coprocessor.specs.Valid.{goes_on}
-use borrow.Author.Rules.{rules}
 use Rattle.coprocessor.proofs.Coprocessor.goes_on.Goals as goal
 
 pub returns-then-not-is_unfinished : goal.returns-then-not-is_unfinished

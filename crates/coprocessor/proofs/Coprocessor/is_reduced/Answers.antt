@@ -1,6 +1,5 @@
 -- `is_reduced` is every reduction, of the maps and of the registers.
 use Rattle.coprocessor.specs.Valid.{reduced_of}
-use borrow.Author.Rules.{rules}
 use Rattle.coprocessor.proofs.Coprocessor.is_reduced.Goals as goal
 
 pub returns : goal.returns

@@ -1,6 +1,5 @@
 -- `is_valid` is refusal 10 on a record: size, reductions and the drawing, joined.
 use Rattle.coprocessor.specs.Valid.{valid_of}
-use borrow.Author.Rules.{rules}
 use Rattle.coprocessor.proofs.Coprocessor.is_valid.Goals as goal
 
 pub returns : goal.returns

@@ -4,7 +4,6 @@ use Rattle.parts.specs.Refusals.{is_accepted}
 use Rattle.coprocessor.specs.declared.Written.{Written}
 use Rattle.coprocessor.specs.Images.{loads, load_answer}
 use Rattle.coprocessor.proofs.Opened.{open_accepts, open_refused, load_opened}
-use borrow.Author.Rules.{rules}
 use Rattle.coprocessor.proofs.Coprocessor.load.Goals as goal
 use Rattle.coprocessor.proofs.Coprocessor.load.Goals.{Else-accepts, Then-accepts}
 

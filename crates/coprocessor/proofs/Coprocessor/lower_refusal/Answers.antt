@@ -1,8 +1,6 @@
 -- `lower_refusal` gives the lowest of 1 to 8: the tests come in the order of the numbers, from 4 on with the record that has the write stored.
--- what the tests before a place said
 use mathlib.Core.Path.{◌≡◌, sym, ap, ◌∙◌}
 use mathlib.Core.Bool.{true, false, not, ◌&&◌}
-use borrow.Author.Tests.{not-true, not-false}
 use Rattle.numbers.specs.Bytes.{covers}
 use Rattle.numbers.proofs.Choices.{choose_true, choose_false}
 use Rattle.parts.specs.Drawings.{unfinished}
@@ -13,10 +11,10 @@ use Rattle.coprocessor.specs.Valid.{start_refusal_of}
 use Rattle.coprocessor.specs.Writes.{stored, starts_by, started_refusal}
 use Rattle.coprocessor.specs.Inner.{lower_refusal}
 use Rattle.coprocessor.proofs.PlaceLaws.{placed_known}
-use borrow.Author.Rules.{rules}
 use Rattle.coprocessor.proofs.Coprocessor.lower_refusal.Goals as goal
 use Rattle.coprocessor.proofs.Coprocessor.lower_refusal.Goals.{After-draws, After-is_listed, After-is_unfinished, After-touches, Else-touches-draws}
 
+-- what the tests before a place said
 place : (c : After-is_unfinished) → placed c.args.w.offset c.args.w.length ≡ true
 place c = sym c.is_placed.ensures ∙ c.if-not-is_placed.false
 

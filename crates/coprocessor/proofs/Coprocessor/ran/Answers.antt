@@ -1,15 +1,14 @@
 -- `ran` is the positions of the set-up and the pen that the record holds, which is safe.
--- what the positions leave, in the record's terms
-use mathlib.Core.Path.{◌≡◌, refl, sym, ap, ◌∙◌}
+use mathlib.Core.Path.{◌≡◌, sym, ap, ◌∙◌}
 use mathlib.Core.Bool.{true}
 use Rattle.numbers.proofs.Choices.{choose_true}
 use Rattle.parts.specs.Refusals.{is_accepted}
 use Rattle.coprocessor.specs.Runs.{with_pen, run_refusal, ran_of, run_answer, run_memory}
 use Rattle.coprocessor.proofs.SafeLaws.{run_accepted, known_safe}
-use borrow.Author.Rules.{rules}
 use Rattle.coprocessor.proofs.Coprocessor.ran.Goals as goal
 use Rattle.coprocessor.proofs.Coprocessor.ran.Goals.{After-with_pen}
 
+-- what the positions leave, in the record's terms
 left : (c : After-with_pen) → let a = c.args in
     (c.run-ran.result.pen ≡ (ran_of a.self a.memory.now a.allowance).pen)
     × (c.run-ran.result.done ≡ (ran_of a.self a.memory.now a.allowance).done)

@@ -1,8 +1,6 @@
 -- `read_known` refuses by 1 and 3 alone: a valid record meets no 10.
 use mathlib.Core.Path.{sym, ◌∙◌}
 use Rattle.coprocessor.proofs.WriteLaws.{read_then10, valid_then10}
-use borrow.Author.Rules.{rules}
-use Rattle.coprocessor.proofs.Coprocessor.read_known.Reads as reads
 use Rattle.coprocessor.proofs.Coprocessor.read_known.Goals as goal
 
 pub found-requires : goal.found-requires

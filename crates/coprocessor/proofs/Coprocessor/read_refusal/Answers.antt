@@ -1,11 +1,8 @@
 -- `read_refusal` gives the lowest refusal of a read: of its place first, and then 10.
 use mathlib.Core.Path.{◌≡◌, sym, ap, ◌∙◌}
-use borrow.Author.Tests.{not-true, not-false}
 use Rattle.parts.specs.Refusals.{is_accepted}
 use Rattle.coprocessor.specs.Inner.{place_refusal}
 use Rattle.coprocessor.proofs.WriteLaws.{read_then10}
-use borrow.Author.Rules.{rules}
-use Rattle.coprocessor.proofs.Coprocessor.read_refusal.Reads as reads
 use Rattle.coprocessor.proofs.Coprocessor.read_refusal.Goals as goal
 use Rattle.coprocessor.proofs.Coprocessor.read_refusal.Goals.{After-accepts}
 

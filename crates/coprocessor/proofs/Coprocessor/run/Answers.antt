@@ -1,11 +1,9 @@
 -- `run` answers the definition: a refused run does nothing, and an accepted one is of a valid record over a memory of its size.
 use mathlib.Core.Path.{◌≡◌, sym, ap, ◌∙◌}
-use borrow.Author.Tests.{not-true, not-false}
 use Rattle.numbers.proofs.Choices.{choose_false}
 use Rattle.parts.specs.Refusals.{is_accepted}
 use Rattle.coprocessor.specs.Runs.{with_pen, run_refusal, ran_of, run_answer, run_memory}
 use Rattle.coprocessor.proofs.SafeLaws.{run_allowed}
-use borrow.Author.Rules.{rules}
 use Rattle.coprocessor.proofs.Coprocessor.run.Goals as goal
 use Rattle.coprocessor.proofs.Coprocessor.run.Goals.{After-ran-arg-1, Then-not-accepts}
 

@@ -1,8 +1,7 @@
 -- `run_known` refuses another length than the state's, and otherwise runs: a valid record meets no 10.
-use mathlib.Core.Path.{sym, refl}
+use mathlib.Core.Path.{refl}
 use borrow.Author.Tests.{ne_eqb}
 use Rattle.coprocessor.specs.Runs.{run_refusal, run_answer, run_memory}
-use borrow.Author.Rules.{rules}
 use Rattle.coprocessor.proofs.Coprocessor.run_known.Goals as goal
 
 pub returns-then-memory-self : goal.returns-then-memory-self

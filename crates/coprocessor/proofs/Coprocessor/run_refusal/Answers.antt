@@ -1,8 +1,7 @@
 -- `run_refusal` gives the lower of 9 and 10: the tests come in that order.
 use Rattle.coprocessor.specs.Runs.{run_refusal}
 use mathlib.Core.Path.{sym, ◌∙◌}
-use borrow.Author.Tests.{eq-eqb, ne_eqb, not-true, not-false}
-use borrow.Author.Rules.{rules}
+use borrow.Author.Tests.{eq-eqb, ne_eqb}
 use Rattle.coprocessor.proofs.Coprocessor.run_refusal.Goals as goal
 
 pub returns-then-memory-self : goal.returns-then-memory-self

@@ -1,8 +1,7 @@
 -- `save` lays the image where the buffer has its length and the record is valid, and nothing elsewhere.
 use mathlib.Core.Path.{refl, sym, ◌∙◌}
-use borrow.Author.Tests.{eq-eqb, ne_eqb, not-true, not-false}
+use borrow.Author.Tests.{eq-eqb, ne_eqb}
 use Rattle.coprocessor.specs.Images.{saves, save_refusal, saved}
-use borrow.Author.Rules.{rules}
 use Rattle.coprocessor.proofs.Coprocessor.save.Goals as goal
 
 pub returns-then-buffer-ne-BYTES : goal.returns-then-buffer-ne-BYTES

@@ -1,6 +1,5 @@
 -- `save_known` lays the image.
 use Rattle.coprocessor.specs.Images.{image_of}
-use borrow.Author.Rules.{rules}
 use Rattle.coprocessor.proofs.Coprocessor.save_known.Goals as goal
 
 pub returns : goal.returns

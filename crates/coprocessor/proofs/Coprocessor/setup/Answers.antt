@@ -1,6 +1,5 @@
 -- `setup` is what a drawing does not change, in its two halves.
 use Rattle.coprocessor.specs.Runs.{setup_of}
-use borrow.Author.Rules.{rules}
 use Rattle.coprocessor.proofs.Coprocessor.setup.Goals as goal
 
 pub returns : goal.returns

@@ -1,7 +1,6 @@
 -- `starts` is the definition: a byte is touched exactly where it is covered.
 use Rattle.parts.proofs.TakeLaws.{touched_one}
 use Rattle.coprocessor.specs.Writes.{starts_by}
-use borrow.Author.Rules.{rules}
 use Rattle.coprocessor.proofs.Coprocessor.starts.Goals as goal
 
 pub returns : goal.returns

@@ -1,6 +1,5 @@
 -- `stored` stores the write in every register that it touches: the records agree part by part.
 use Rattle.coprocessor.specs.Writes.{stored}
-use borrow.Author.Rules.{rules}
 use Rattle.coprocessor.proofs.Coprocessor.stored.Goals as goal
 
 pub returns : goal.returns

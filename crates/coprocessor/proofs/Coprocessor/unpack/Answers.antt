@@ -7,7 +7,6 @@ use Rattle.parts.specs.declared.refusals.Refusal.{Refusal}
 use Rattle.parts.specs.declared.refusals.Refusal.TheVariants.{Accepted, Image}
 use Rattle.coprocessor.specs.Images.{loads}
 use Rattle.coprocessor.specs.Inner.{opened_of}
-use borrow.Author.Rules.{rules}
 use Rattle.coprocessor.proofs.Coprocessor.unpack.Goals as goal
 
 pub returns-then-buffer-ne-BYTES : goal.returns-then-buffer-ne-BYTES

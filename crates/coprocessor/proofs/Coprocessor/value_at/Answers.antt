@@ -8,7 +8,6 @@ use Rattle.image.specs.Bank.{read_from}
 use Rattle.image.proofs.WordLaws.{part_bytes}
 use Rattle.coprocessor.specs.Reads.{value_at}
 use Rattle.coprocessor.proofs.PlaceLaws.{placed_known}
-use borrow.Author.Rules.{rules}
 use Rattle.coprocessor.proofs.Coprocessor.value_at.Goals as goal
 
 pub bounds-words-i : goal.bounds-words-i

@@ -1,10 +1,8 @@
 -- `write_refusal` gives the lowest refusal of a write: of 1 to 8 first, and then 10.
 use mathlib.Core.Path.{◌≡◌, sym, ap, ◌∙◌}
-use borrow.Author.Tests.{not-true, not-false}
 use Rattle.parts.specs.Refusals.{is_accepted}
 use Rattle.coprocessor.specs.Inner.{lower_refusal}
 use Rattle.coprocessor.proofs.WriteLaws.{write_then10}
-use borrow.Author.Rules.{rules}
 use Rattle.coprocessor.proofs.Coprocessor.write_refusal.Goals as goal
 use Rattle.coprocessor.proofs.Coprocessor.write_refusal.Goals.{After-accepts}
 

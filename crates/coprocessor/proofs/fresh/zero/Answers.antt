@@ -1,6 +1,5 @@
 -- `zero` is the fresh record: maps and drawing are written out, and the registers are zero.
 use Rattle.coprocessor.specs.Fresh.{fresh_of}
-use borrow.Author.Rules.{rules}
 use Rattle.coprocessor.proofs.fresh.zero.Goals as goal
 
 pub returns : goal.returns

@@ -2,7 +2,6 @@
 use borrow.Author.Tests.{eq-eqb}
 use Rattle.coprocessor.specs.Inner.{loads_by}
 use Rattle.coprocessor.proofs.ImageRules.{loads_by_lem}
-use borrow.Author.Rules.{rules}
 use Rattle.coprocessor.proofs.loads.loads.Goals as goal
 
 pub returns : goal.returns

@@ -2,7 +2,6 @@
 use mathlib.Core.Path.{◌∙◌}
 use Rattle.image.specs.Counters.{drawing_of}
 use Rattle.coprocessor.specs.Images.{loaded}
-use borrow.Author.Rules.{rules}
 use Rattle.coprocessor.proofs.loads.record_from.Goals as goal
 
 pub returns : goal.returns

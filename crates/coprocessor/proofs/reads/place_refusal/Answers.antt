@@ -1,10 +1,7 @@
 -- `place_refusal` gives the lower of 1 and 3: the tests come in their order.
 use mathlib.Core.Path.{sym, ◌∙◌}
-use borrow.Author.Tests.{not-true, not-false}
 use Rattle.coprocessor.specs.Inner.{place_refusal}
 use Rattle.coprocessor.proofs.PlaceLaws.{placed_known}
-use borrow.Author.Rules.{rules}
-use Rattle.coprocessor.proofs.reads.place_refusal.Reads as reads
 use Rattle.coprocessor.proofs.reads.place_refusal.Goals as goal
 
 pub returns-then-not-is_placed : goal.returns-then-not-is_placed

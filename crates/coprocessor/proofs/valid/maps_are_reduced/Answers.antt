@@ -1,7 +1,6 @@
 -- `maps_are_reduced` is the definition: one test for each map.
 use Rattle.rules.specs.Maps.{map_at}
 use Rattle.coprocessor.specs.Valid.{maps_reduced}
-use borrow.Author.Rules.{rules}
 use Rattle.coprocessor.proofs.valid.maps_are_reduced.Goals as goal
 
 pub returns : goal.returns

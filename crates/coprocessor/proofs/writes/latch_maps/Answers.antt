@@ -1,6 +1,5 @@
 -- `latch_maps` changes the selected map alone: the others stay where they are in the list.
 use Rattle.rules.specs.Maps.{map_at}
-use borrow.Author.Rules.{rules}
 use Rattle.coprocessor.proofs.writes.latch_maps.Goals as goal
 
 pub returns : goal.returns

@@ -1,5 +1,4 @@
 -- `compares` is the definition: the masked pixels compare as the gathered bits do, so each arm is the condition of its number.
--- what condition k says of the masked pixels is the answer where the condition is k
 use mathlib.Core.Path.{◌≡◌, sym}
 use Prim.Native.Nat.{ℕ, zero-le}
 use lib.Bits.{bit_and}
@@ -9,6 +8,7 @@ use Rattle.mixes.proofs.Order.{holds_masked, holds_past}
 use Rattle.mixes.proofs.conditions.compares.Goals as goal
 use Rattle.mixes.proofs.conditions.compares.Goals.{Start}
 
+-- what condition k says of the masked pixels is the answer where the condition is k
 answer : (c : Start) (k : ℕ) → let a = c.args in a.condition ≡ k
     → holds_of k (bit_and a.destination a.depth.planes) (bit_and a.value a.depth.planes)
     ≡ condition_holds a.depth.bits a.condition a.depth.planes a.destination a.value

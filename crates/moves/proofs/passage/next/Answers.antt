@@ -1,5 +1,4 @@
 -- `next` goes the way that leads to the definition's pen, whichever it is.
--- the pen goes the way that it is known to be
 use mathlib.Core.Path.{◌≡◌, ◌∙◌, sym, ap}
 use mir.Syntax.{w32}
 use mir.ValLaws.{to_z-of_z}
@@ -11,6 +10,7 @@ use Rattle.moves.specs.Inner.{went_by}
 use Rattle.moves.proofs.passage.next.Goals as goal
 use Rattle.moves.proofs.passage.next.Goals.{After-way_of-way}
 
+-- the pen goes the way that it is known to be
 known : (c : After-way_of-way) {w : Way} → let a = c.args in
     c.way_of-way.result ≡ w → went_by a.travel w a.pen ≡ moved a.travel (pen_with (with_inside a.inside a.pen.drawing) a.pen)
 known c e = ap (λ w. went_by c.args.travel w c.args.pen) (sym e) ∙ c.way_of-way.ensures

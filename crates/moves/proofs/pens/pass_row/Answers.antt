@@ -1,5 +1,4 @@
 -- `pass_row` is the definition, field by field: each call gives a part of its field, and a point of choices is the choice of points.
--- the destination has 16 bits, and E 32
 use mathlib.Core.Path.{◌≡◌}
 use mathlib.Core.Bool.{true}
 use mir.Val.{SFits}
@@ -14,6 +13,7 @@ use borrow.Author.Rules.{rules}
 use Rattle.moves.proofs.pens.pass_row.Goals as goal
 use Rattle.moves.proofs.pens.pass_row.Goals.{After-struct_told-3-1, Start}
 
+-- the destination has 16 bits, and E 32
 across : (c : After-struct_told-3-1) → SFits w16 c.args.pen.pointers.destination.x
 across c = search (rules, c.struct_told-1.given.0.1.1)
 

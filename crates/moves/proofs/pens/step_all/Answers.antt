@@ -1,5 +1,4 @@
 -- `step_all` is the definition, field by field: each call gives a part of its field, and a point of choices is the choice of points.
--- the destination has 16 bits
 use mathlib.Core.Path.{◌≡◌}
 use mathlib.Core.Bool.{true}
 use mir.Val.{SFits}
@@ -16,6 +15,7 @@ use borrow.Author.Rules.{rules}
 use Rattle.moves.proofs.pens.step_all.Goals as goal
 use Rattle.moves.proofs.pens.step_all.Goals.{After-circle_by-2, Start}
 
+-- the destination has 16 bits
 across : (c : After-circle_by-2) → SFits w16 c.args.pen.pointers.destination.x
 across c = search (rules, c.struct_told-1.given.0.1.1)
 

@@ -1,5 +1,4 @@
 -- `step_destination` is its definition: each call gives a part of the destination.
--- the destination has 16 bits
 use mir.Val.{SFits}
 use mir.Syntax.{w16, w32}
 use mir.ValLaws.{to_z-of_z}
@@ -9,6 +8,7 @@ use borrow.Author.Rules.{rules}
 use Rattle.moves.proofs.pens.step_destination.Goals as goal
 use Rattle.moves.proofs.pens.step_destination.Goals.{After-circle_by-2}
 
+-- the destination has 16 bits
 across : (c : After-circle_by-2) → SFits w16 c.args.pen.pointers.destination.x
 across c = search (rules, c.struct_told-1.given.0.1.1)
 

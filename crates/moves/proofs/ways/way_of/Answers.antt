@@ -1,5 +1,4 @@
 -- `way_of` leads to the definition's pen at each kind of drawing: what the match finds in hand is what the pen moves by.
--- the pen moves by what its drawing is known to be, with the bit as it is now
 use mathlib.Core.Path.{◌≡◌, ◌∙◌, sym, ap}
 use Rattle.parts.specs.declared.drawing.Drawing.{Drawing}
 use Rattle.parts.specs.Drawings.{with_inside}
@@ -8,6 +7,7 @@ use Rattle.moves.specs.Inner.{went_by}
 use Rattle.moves.proofs.ways.way_of.Goals as goal
 use Rattle.moves.proofs.ways.way_of.Goals.{Start}
 
+-- the pen moves by what its drawing is known to be, with the bit as it is now
 known : (c : Start) {d : Drawing} → let a = c.args in a.pen.drawing ≡ d
     → moved_by a.travel (with_inside a.inside d) (pen_with (with_inside a.inside d) a.pen)
     ≡ moved a.travel (pen_with (with_inside a.inside a.pen.drawing) a.pen)

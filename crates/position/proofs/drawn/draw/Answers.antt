@@ -1,5 +1,4 @@
 -- `draw` leaves what is drawn: the fate judged of what is found is the position's, and only a painted position is written.
--- the fate that is judged is the position's
 use mathlib.Core.Path.{◌≡◌, ◌∙◌, sym, ap}
 use Rattle.pixels.proofs.Pixels.{cell_in_byte, cell_in_memory}
 use Rattle.position.specs.declared.Pattern.{Pattern}
@@ -10,6 +9,7 @@ use Rattle.position.proofs.Writing.{drawn_by_lem, open_inside, painted_open}
 use Rattle.position.proofs.drawn.draw.Goals as goal
 use Rattle.position.proofs.drawn.draw.Goals.{After-slice_known-then-is_painted-1, After-write-arg-1, Else-is_painted}
 
+-- the fate that is judged is the position's
 painted : (c : After-slice_known-then-is_painted-1) → let a = c.args in
     c.is_painted.result ≡ is_painted (fate_of a.setup a.memory.now a.pen)
 painted c = c.is_painted.ensures ∙ ap is_painted (c.judge-fate.ensures _ _ c.look-sight.ensures)

@@ -1,5 +1,4 @@
 -- `judge` is the fate: where a position may be painted, mask and compare condition tell, and otherwise what is foreseen stands.
--- whether it may be painted is as foreseen
 use mathlib.Core.Path.{◌≡◌, ◌∙◌, sym, ap}
 use mathlib.Core.List.{List}
 use Prim.Native.Nat.{ℕ}
@@ -12,6 +11,7 @@ use Rattle.position.proofs.Writing.{open_fate, closed_fate}
 use Rattle.position.proofs.judge.judge.Goals as goal
 use Rattle.position.proofs.judge.judge.Goals.{After-is_painted, Else-is_compared, Then-is_compared}
 
+-- whether it may be painted is as foreseen
 foreseen : (c : After-is_painted) (memory : List ℕ) (pen : Pen) → let a = c.args in
     Seen a.setup memory pen a.sight → is_painted (foreseen_of a.setup pen) ≡ c.is_painted.result
 foreseen c memory pen seen = sym (c.is_painted.ensures ∙ ap is_painted seen.foreseen)

@@ -1,5 +1,4 @@
 -- `look` finds what is there, part by part: mask and destination lie in the memory where the position may be painted.
--- whether it may be painted is as foreseen
 use mathlib.Core.Path.{◌≡◌, ◌∙◌, sym, ap}
 use mathlib.Core.Bool.{true, false≢true}
 use lib.ListN.{length}
@@ -14,6 +13,7 @@ use Rattle.position.proofs.Writing.{open_inside}
 use Rattle.position.proofs.look.look.Goals as goal
 use Rattle.position.proofs.look.look.Goals.{After-blank, After-blank-then-is_on_zero, After-value, Else-is_on_zero, Else-not-is_painted}
 
+-- whether it may be painted is as foreseen
 foreseen : (c : After-blank) → let a = c.args in c.is_painted.result ≡ is_painted (foreseen_of a.setup a.pen)
 foreseen c = c.is_painted.ensures ∙ ap is_painted c.foresee-foreseen.ensures
 

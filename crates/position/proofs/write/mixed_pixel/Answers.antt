@@ -1,5 +1,4 @@
 -- `mixed_pixel` is the definition, of what was read for each part of it; a logical mix is its ink's blend.
--- the mix of an ink, of what was read
 use mathlib.Core.Path.{◌≡◌, ◌∙◌, ap}
 use mathlib.Core.Bool.{Bool}
 use mathlib.Core.List.{List}
@@ -18,15 +17,16 @@ use Rattle.position.proofs.Safety.{picked_read}
 use Rattle.position.proofs.write.mixed_pixel.Goals as goal
 use Rattle.position.proofs.write.mixed_pixel.Goals.{After-is_foreground-foreground}
 
-abbrev mixOf : Setup → Sight → Bool → Ink → ℕ
-mixOf s sight takes ink = mixed s.brush.depth.bits ink.mix s.brush.depth.planes (choose takes sight.source ink.colour) sight.pixel
+-- the mix of an ink, of what was read
+abbrev mix_of : Setup → Sight → Bool → Ink → ℕ
+mix_of s sight takes ink = mixed s.brush.depth.bits ink.mix s.brush.depth.planes (choose takes sight.source ink.colour) sight.pixel
 
 -- that of the ink that the pattern picks is the definition
 found : (c : After-is_foreground-foreground) (memory : List ℕ) (pen : Pen) → let a = c.args in
     let foreground = c.is_foreground-foreground.result in
     let brush = a.setup.brush in
     Seen a.setup memory pen a.sight → Target a.setup memory pen a.sight
-    → mixOf a.setup a.sight (choose foreground brush.flow.foreground brush.flow.background)
+    → mix_of a.setup a.sight (choose foreground brush.flow.foreground brush.flow.background)
     (choose foreground brush.colours.foreground brush.colours.background)
     ≡ mixed_pixel a.setup memory pen
 unfolding ink_of picked mixed_pixel

@@ -1,5 +1,4 @@
 -- `draw_lane` sweeps a lane that is in phase, and draws another only where it lies apart.
--- a lane that is swept takes no pattern
 use Rattle.std.proofs.Common.{◌≡◌, Bool, true, false, not, ◌&&◌, sym, refl, ap, ◌∙◌}
 use mathlib.Core.Bool.{false≢true}
 use borrow.Author.Tests.{not-true}
@@ -10,6 +9,7 @@ use Rattle.runs.proofs.LaidLaws.{same, alike}
 use Rattle.runs.proofs.lanes.draw_lane.Goals as goal
 use Rattle.runs.proofs.lanes.draw_lane.Goals.{After-slice_known-then-is_pattern-is_in_phase-1, After-sweep-arg-1}
 
+-- a lane that is swept takes no pattern
 plain : (c : After-slice_known-then-is_pattern-is_in_phase-1) → is_pattern c.args.taken ≡ false
 plain c = sym c.is_pattern.ensures ∙ not-true _ (and_left (not c.is_pattern.result) _ c.if-is_pattern-is_in_phase.true)
 

@@ -1,5 +1,4 @@
 -- `plan_by` is the plan, part by part.
--- what is taken is as the drawing has it
 use Rattle.std.proofs.Common.{◌≡◌, Bool, true, false, sym, refl, subst}
 use Rattle.numbers.specs.Choose.{choose}
 use Rattle.places.specs.declared.Setup.{Setup}
@@ -7,6 +6,7 @@ use Rattle.runs.specs.declared.plans.Taken.TheVariants.{Own, Source, Pattern}
 use Rattle.runs.specs.Inner.{has_rows, has_inks, RowsBy}
 use Rattle.runs.proofs.plans.plan_by.Goals as goal
 
+-- what is taken is as the drawing has it
 rows-by : (s : Setup) (inks foreground : Bool) → foreground ≡ s.brush.flow.foreground → (inks ≡ false → has_rows s ≡ true) → (inks ≡ true → has_inks s ≡ true)
     → RowsBy s (choose inks Pattern (choose foreground Source Own))
 rows-by s true foreground e plain inked = inked refl

@@ -1,10 +1,10 @@
 -- `plan_of` is that of rows or strokes only where there are any.
--- of two tests the other holds
 use Rattle.std.proofs.Common.{◌≡◌, Bool, true, false, ◌||◌, sym, ◌∙◌}
 use mathlib.Core.Bool.{false≢true}
 use Rattle.numbers.proofs.Choices.{and_right}
 use Rattle.runs.proofs.plans.plan_of.Goals as goal
 
+-- of two tests the other holds
 other : (a b : Bool) → (a || b) ≡ true → a ≡ false → b ≡ true
 other true b e none = absurd (false≢true (sym none))
 other false b e none = e

@@ -1,5 +1,4 @@
 -- `draw_row` is a stretch: the lane of its row drawn, and the pen as many columns further.
--- the positions from the pen on are a stretch, of a drawing by rows
 use Rattle.std.proofs.Common.{◌≡◌, suc, ◌-◌, ◌<◌, true, length, sym, refl, ap, ◌∙◌, subst, zero-le, arith}
 use Rattle.pixels.specs.declared.Map.{Map}
 use Rattle.rows.specs.declared.Lane.{Lane}
@@ -11,6 +10,7 @@ use Rattle.runs.proofs.RowLaws.{row_laid, stretch_on, row_makes, stretch_run}
 use Rattle.runs.proofs.stretches.draw_row.Goals as goal
 use Rattle.runs.proofs.stretches.draw_row.Goals.{After-draw_lane-arg-3-1, After-pass_stretch, After-pass_stretch-arg-1}
 
+-- the positions from the pen on are a stretch, of a drawing by rows
 some : (c : After-draw_lane-arg-3-1) → 0 < c.length_of-count.result
 some c = omega (arith, c.if-count-eq0.false)
 

@@ -1,5 +1,4 @@
 -- `pass` goes on by all columns, or from the first of them to the next row's start: as by all but the last, and then by that one's move.
--- the pen so many columns further
 use Rattle.std.proofs.Common.{◌≡◌, ℕ, ◌+◌, ◌-◌, ◌≤◌, false, sym, refl, ap, ◌∙◌, add-one, arith}
 use Rattle.parts.specs.declared.drawing.Drawing.{Drawing}
 use Rattle.parts.specs.declared.drawing.Drawing.TheVariants.{Block}
@@ -10,6 +9,7 @@ use Rattle.moves.proofs.ColumnLaws.{columns_more, row_returned_lem}
 use Rattle.runs.proofs.stretches.pass.Goals as goal
 use Rattle.runs.proofs.stretches.pass.Goals.{Start}
 
+-- the pen so many columns further
 abbrev ahead : Start → ℕ → Pen
 ahead c n = let a = c.args in columns_passed a.travel n (Block false (a.column + n) a.row) a.pen
 

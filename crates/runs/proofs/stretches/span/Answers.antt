@@ -1,10 +1,10 @@
 -- `span` counts to the last place in its direction.
--- the place lies from low to high
 use Rattle.std.proofs.Common.{◌≤◌, ltb, arith, ltb-false}
 use Rattle.runs.proofs.PlaceLaws.{neither}
 use Rattle.runs.proofs.stretches.span.Goals as goal
 use Rattle.runs.proofs.stretches.span.Goals.{Else-here-low}
 
+-- the place lies from low to high
 lies : (c : Else-here-low) → let a = c.args in (a.low ≤ a.here) × (a.here ≤ a.high)
 lies c = let a = c.args in let h = neither (ltb a.here a.low) _ c.if-here-low.false in (ltb-false _ _ h.0, ltb-false _ _ h.1)
 

@@ -1,5 +1,4 @@
 -- `go` is the stroke's positions: the pixels of its trail, and the pen by the number of the pixel there.
--- the trail
 use Rattle.std.proofs.Common.{◌≡◌, ℕ, ◌+◌, ◌/◌, ◌%◌, ◌<◌, ◌≤◌, true, ◌&&◌, eqb, ltb, length, pos, sym, ap, ◌∙◌, subst, arith, w32, ltb-true, eqb-true}
 use mir.ValLaws.{to_z-of_z}
 use Rattle.numbers.specs.Choose.{choose}
@@ -18,6 +17,7 @@ use Rattle.runs.proofs.StrokeLaws.{place_held, stroke_done, is_stroke_lem}
 use Rattle.runs.proofs.strokes.go.Goals as goal
 use Rattle.runs.proofs.strokes.go.Goals.{After-done_by, After-drawing_on-arg-1, After-end-arg-1, After-pen_at, After-slice_known-3-1, After-trace-arg-1}
 
+-- the trail
 abbrev T : After-done_by → Trail
 T c = let a = c.args in trail_from a.setup.brush.destination a.stroke a.x a.y
 
