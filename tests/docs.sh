@@ -22,6 +22,9 @@ while read -r place name; do
 done <"$work/cited"
 [ -s "$work/cited" ] || tell 'docs/READING.md cites no place'
 
+# docs/PORT.md also has names that were, and the kit's.
+pages="README.md $(ls docs/*.md docs/manual/*.md | grep -v '/PORT.md$')"
+
 # stated FOLDER: what the files in this folder of the crates define or prove
 stated() {
     find crates/*/"$1" -name '*.antt' -exec sed -nE \
@@ -55,7 +58,7 @@ awk '
             }
         next
     }
-    { in_table = 0 }' README.md docs/*.md docs/manual/*.md | sort -u >"$work/cells"
+    { in_table = 0 }' $pages | sort -u >"$work/cells"
 
 # column HEADING KIND..: the names of this form under this heading are all of one of these kinds
 column() {
@@ -76,7 +79,7 @@ column Method functions
 
 # Everywhere else too a name of several words is one that is there; the log's words for a goal are the log's alone.
 sed '/^| Crate | What is right/,/^$/s/[^|]*|$//' docs/PROMISES.md >"$work/promises"
-grep -ohE '`([a-z][a-z0-9]*([_-][a-z0-9]+)+|[a-z]+[A-Z][A-Za-z]*)`' README.md "$work/promises" $(ls docs/*.md docs/manual/*.md | grep -v PROMISES.md) |
+grep -ohE '`([a-z][a-z0-9]*([_-][a-z0-9]+)+|[a-z]+[A-Z][A-Za-z]*)`' "$work/promises" $(printf '%s\n' $pages | grep -v PROMISES.md) |
     tr -d '`' | sort -u >"$work/names"
 comm -23 "$work/names" "$work/known" >"$work/absent"
 while read -r name; do tell "there is no $name"; done <"$work/absent"
