@@ -82,10 +82,13 @@ check() {
 
 # is_refused LOG PLACE [LAW]: whether the log has an error there that counts
 is_refused() {
-    local place=$2 law=${3:-}
-    grep -asE "(^|/)proofs/$place(/(Answers|Invariants|Proof))?\.antt:[0-9]+:[0-9]+: error: \`${law:-[^\`]*}\`: " "$1" |
-        grep -aqvE 'was not admitted|has no field|is not in scope|has no `' ||
-        grep -asE "^fn $crate::${place//\//::}: no proof: expected answers" "$1" | grep -aqF "${law:+\`$law\`}"
+    local place=$2 law=${3:-} found
+    found=$(
+        grep -asE "(^|/)proofs/$place(/(Answers|Invariants|Proof))?\.antt:[0-9]+:[0-9]+: error: \`${law:-[^\`]*}\`: " "$1" |
+            grep -avE 'was not admitted|has no field|is not in scope|has no `'
+        grep -asE "^fn $crate::${place//\//::}: no proof: expected answers" "$1" | grep -aF "${law:+\`$law\`}"
+    )
+    [ -n "$found" ]
 }
 
 mkdir "$kept" "$tried"
