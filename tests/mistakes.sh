@@ -4,11 +4,25 @@
 # an error that is only of something refused before it, or of a name that the edit took away, does not count. Where another mistake of the edit
 # hides it, it is tried alone. The logs are target/must-fail/CRATE/EDIT.log, and EDIT.NUMBER.log of a mistake that was tried alone; each is made anew
 # where what it was made from has changed.
-# usage: tests/mistakes.sh [CRATE..]     (in the repository's root; with RT_FLAGS='--jobs 1', say, for rt check)
+# usage: tests/mistakes.sh [CRATE..]     (in the repository's root; JOBS crates at a time, or else one for each processor and 4 GB of free memory)
 set -uo pipefail
-failed=0 looked=0
 work=$(mktemp -d) || exit 2
 trap 'rm -rf "$work"' EXIT
+mapfile -t all < <(sed 's/#.*//; s/[ :].*//; /^$/d' crates.txt)
+
+# Each crate has a run of its own, in a copy of its own.
+if (($# != 1)); then
+    if (($# == 0)); then set -- "${all[@]}"; fi
+    lanes=$(awk -v most="$(nproc)" '/^MemAvailable:/ { fit = int($2 / 4000000) + 1; print fit < most ? fit : most }' /proc/meminfo)
+    for crate in "$@"; do if [ -d "crates/$crate/must-fail" ]; then echo "$crate"; fi; done | xargs -P "${JOBS:-$lanes}" -n 1 "$0" | tee "$work/said"
+    status=$?
+    looked=$(awk '/ mistakes looked up$/ { sum += $2 } END { print sum + 0 }' "$work/said")
+    echo "mistakes refused each for itself: $looked looked up"
+    [ "$looked" -gt 0 ] || exit 1
+    exit $status
+fi
+crate=$1
+failed=0 looked=0
 
 # kept: the crates as they are now; tried: the copy in which edits are made and checked
 kept=$work/kept tried=$work/tried
@@ -71,8 +85,11 @@ check() {
         tell "cannot be applied${2:+, its mistake $2}"
         return 1
     }
-    # shellcheck disable=SC2086
-    (cd "$tried/crates/$crate" && rt check ${RT_FLAGS:-}) >"$work/log" 2>&1
+    # a check that was stopped, for want of memory say, is made once more
+    for _ in 1 2; do
+        (cd "$tried/crates/$crate" && rt check --jobs 1) >"$work/log" 2>&1
+        if grep -q '^logic=' "$work/log"; then break; fi
+    done
     if ! grep -q '^logic=not-proved' "$work/log"; then
         tell "is not refused, or not checked${2:+, its mistake $2}: $(grep -E '^logic=|error' "$work/log" | tail -n 1)"
         return 1
@@ -94,43 +111,38 @@ is_refused() {
 mkdir "$kept" "$tried"
 cp crates.txt "$kept"
 cp crates.txt "$tried"
-mapfile -t all < <(sed 's/#.*//; s/[ :].*//; /^$/d' crates.txt)
-for crate in "${all[@]}"; do
-    sources "$crate" "$kept"
-    sources "$crate" "$tried"
-    if [ -d "crates/$crate/must-fail" ]; then cp -r "crates/$crate/must-fail" "$kept/crates/$crate"; fi
+for name in "${all[@]}"; do
+    sources "$name" "$kept"
+    sources "$name" "$tried"
 done
+cp -r "crates/$crate/must-fail" "$kept/crates/$crate"
+below=$({
+    rt version
+    awk -v wanted="$crate" -f scripts/below.awk crates.txt | while read -r name; do
+        (cd "$kept" && find "crates/$name/src" "crates/$name/specs" "crates/$name/proofs" -type f -exec sha256sum {} + 2>/dev/null)
+    done | sort
+} | sha256sum)
 
-if (($# == 0)); then set -- "${all[@]}"; fi
-for crate in "$@"; do
-    below=$({
-        rt version
-        cd "$kept" && awk -v wanted="$crate" -f "$OLDPWD/scripts/below.awk" crates.txt |
-            while read -r name; do find "crates/$name/src" "crates/$name/specs" "crates/$name/proofs" -type f -exec sha256sum {} + 2>/dev/null; done | sort
-    } | sha256sum)
-    for edit in "crates/$crate"/must-fail/*.edit; do
-        [ -f "$kept/$edit" ] || continue
-        logs=target/must-fail/$crate/$(basename "$edit" .edit)
-        mkdir -p "$(dirname "$logs")"
-        check "$logs.log" || continue
-        number=0 is_head=0
-        while IFS= read -r line; do
-            if [[ $line != '#'* ]]; then
-                is_head=0
-                continue
-            fi
-            if ((is_head == 0)); then number=$((number + 1)); fi
-            is_head=1
-            [[ $line =~ ^'# refused: '([^ ]+)' '?(.*)$ ]] || continue
-            place=${BASH_REMATCH[1]} law=${BASH_REMATCH[2]}
-            looked=$((looked + 1))
-            is_refused "$logs.log" "$place" "$law" ||
-                { check "$logs.$number.log" "$number" && is_refused "$logs.$number.log" "$place" "$law"; } ||
-                tell "is not refused in $place${law:+ $law}, its mistake $number"
-        done <"$kept/$edit"
-    done
-    (cd "$kept" && sources "$crate" "$tried")
+for edit in "crates/$crate"/must-fail/*.edit; do
+    logs=target/must-fail/$crate/$(basename "$edit" .edit)
+    mkdir -p "$(dirname "$logs")"
+    check "$logs.log" || continue
+    number=0 is_head=0
+    while IFS= read -r line; do
+        if [[ $line != '#'* ]]; then
+            is_head=0
+            continue
+        fi
+        if ((is_head == 0)); then number=$((number + 1)); fi
+        is_head=1
+        [[ $line =~ ^'# refused: '([^ ]+)' '?(.*)$ ]] || continue
+        place=${BASH_REMATCH[1]} law=${BASH_REMATCH[2]}
+        looked=$((looked + 1))
+        is_refused "$logs.log" "$place" "$law" ||
+            { check "$logs.$number.log" "$number" && is_refused "$logs.$number.log" "$place" "$law"; } ||
+            tell "is not refused in $place${law:+ $law}, its mistake $number"
+    done <"$kept/$edit"
 done
-echo "mistakes refused each for itself: $looked looked up"
+echo "$crate: $looked mistakes looked up"
 [ "$looked" -gt 0 ] || failed=1
 exit $failed
