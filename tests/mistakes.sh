@@ -77,7 +77,7 @@ apply() {
 
 # check LOG [NUMBER]: sees to the log of the check with the edit, or with its mistake of that number alone
 check() {
-    local from
+    local from said
     from="made from $below $(sha256sum <"$kept/$edit")"
     if [ -s "$1" ] && [ "$(tail -n 1 "$1")" = "$from" ]; then return 0; fi
     rm -f "$1"
@@ -88,10 +88,11 @@ check() {
     # a check that was stopped, for want of memory say, is made once more
     for _ in 1 2; do
         (cd "$tried/crates/$crate" && rt check --jobs 1) >"$work/log" 2>&1
-        if grep -q '^logic=' "$work/log"; then break; fi
+        said=$(sed -n "/^crate $crate: /,\$p" "$work/log" | grep '^logic=')
+        if [ -n "$said" ]; then break; fi
     done
-    if ! grep -q '^logic=not-proved' "$work/log"; then
-        tell "is not refused, or not checked${2:+, its mistake $2}: $(grep -E '^logic=|error' "$work/log" | tail -n 1)"
+    if [[ $said != logic=not-proved* ]]; then
+        tell "is not refused, or not checked${2:+, its mistake $2}: ${said:-$(grep error "$work/log" | head -n 1)}"
         return 1
     fi
     { cat "$work/log" && echo "$from"; } >"$1"
