@@ -1,14 +1,7 @@
 #!/bin/sh
 # Whether the documents name what is there: places cited by line, theorems, definitions, functions, must-fail edits, decisions, crates, and refusals.
 # usage: tests/docs.sh     (in the repository's root)
-work=$(mktemp -d) || exit 2
-trap 'rm -rf "$work"' EXIT
-failed=0
-
-tell() {
-    echo "FAILED: $1"
-    failed=1
-}
+. tests/tell.sh
 
 # `crate/folder/File.antt:12`, `name`: that line begins with the name, after the words that make it a definition.
 grep -o '`[a-z]*/[A-Za-z_/]*\.antt:[0-9]*`, `[^`]*`' docs/READING.md | tr -d '`,' >"$work/cited"

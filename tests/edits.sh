@@ -3,36 +3,30 @@
 # proofs/ and a law in it. Whether each mistake is refused there, for itself and over a fact, is looked up by tests/mistakes.sh.
 # usage: tests/edits.sh LOG     (in the repository's root; LOG is what `rt ci` or `rt must-fail` printed)
 log=$1
-work=$(mktemp -d) || exit 2
-trap 'rm -rf "$work"' EXIT
-failed=0 edits=0
+. tests/tell.sh
+edits=0
 : >"$work/mistakes"
-
-tell() {
-    echo "FAILED: $edit $1"
-    failed=1
-}
 
 for edit in crates/*/must-fail/*.edit; do
     edits=$((edits + 1))
     crate=${edit#crates/}
     crate=${crate%%/*}
     sed -n 's/^# refused: //p' "$edit" | tee -a "$work/mistakes" >"$work/named"
-    [ -s "$work/named" ] || tell 'does not say where it is refused'
+    [ -s "$work/named" ] || tell "$edit does not say where it is refused"
     while read -r place law; do
         if [ ! -d "crates/$crate/proofs/$place" ] && [ ! -f "crates/$crate/proofs/$place.antt" ] &&
             ! grep -rqE "^ *(pub(\([a-z]+\))? )?fn ${place##*/}\b" "crates/$crate/src"; then
-            tell "names $place, which is no function and no file of proofs"
+            tell "$edit names $place, which is no function and no file of proofs"
         fi
         if [ -n "$law" ] && [ -f "crates/$crate/proofs/$place.antt" ] && ! grep -qE "^ *((pub|abbrev|unfoldable) )*$law " "crates/$crate/proofs/$place.antt"; then
-            tell "names $place $law, where there is no such law"
+            tell "$edit names $place $law, where there is no such law"
         fi
     done <"$work/named"
     said=$(sed -n "s|^rt: must-fail $crate/${edit##*/}: ||p" "$log" | tail -n 1)
     case $said in
     'refused, as it must be: '*) ;;
-    '') tell "is not in $log" ;;
-    *) tell "$said" ;;
+    '') tell "$edit is not in $log" ;;
+    *) tell "$edit: $said" ;;
     esac
 done
 echo "must-fail edits, of $(wc -l <"$work/mistakes") mistakes: $edits looked up"

@@ -2,14 +2,7 @@
 # Whether the exports of each static library are the library's public functions, each with the head and the clauses of its function, word for word
 # and by the same imports, and with a call of it for a body; and whether c/xga.h declares those of `board`.
 # usage: tests/exports.sh     (in the repository's root)
-work=$(mktemp -d) || exit 2
-trap 'rm -rf "$work"' EXIT
-failed=0
-
-tell() {
-    echo "FAILED: $1"
-    failed=1
-}
+. tests/tell.sh
 
 # functions FILE: for each public function a line with its name, its head and clauses without layout, and its body without layout
 functions() {

@@ -1,2 +1,1 @@
-mod Begun
 mod Examples

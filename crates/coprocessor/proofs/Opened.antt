@@ -1,5 +1,5 @@
 -- What a load answers, by whether the image loads: the record that it is, or refusal 10.
-use mathlib.Core.Path.{◌≡◌, refl, sym}
+use mathlib.Core.Path.{◌≡◌, refl, sym, ap, ◌∙◌}
 use mathlib.Core.Bool.{Bool, true, false}
 use mathlib.Core.List.{List}
 use Prim.Native.Nat.{ℕ}
@@ -62,3 +62,13 @@ open_number b = by (loads b)
 pub load_opened : (c : Coprocessor) (b : List ℕ) → loads b ≡ true → load_answer c b ≡ opened_of b
 unfolding load_answer opened_of
 load_opened c b e = rw e (λ i. record { refusal = Accepted; coprocessor = sym (open_record b e) i })
+
+-- ---- what a call knows once it has opened an image
+
+-- an accepted opening is that of an image that loads
+pub told : (image : List ℕ) (opened : Written) (accepted : Bool) → opened ≡ opened_of image → accepted ≡ is_accepted opened.refusal → accepted ≡ loads image
+told image opened accepted e a = a ∙ ap (λ (w : Written). is_accepted w.refusal) e ∙ open_accepts image
+
+-- the record that the image is
+pub begun : (image : List ℕ) (opened : Written) → opened ≡ opened_of image → loads image ≡ true → opened.coprocessor ≡ loaded image
+begun image opened e good = ap (λ (w : Written). w.coprocessor) e ∙ open_record image good

@@ -15,7 +15,7 @@ use Rattle.laws.proofs.Refused.{fresh_valid, fresh_answer_valid}
 use Rattle.laws.proofs.LoadedLaws.{saved_valid}
 use Rattle.board.specs.Calls.{fresh_number, fresh_image}
 use Rattle.board.proofs.xga_fresh.Goals as goal
-use Rattle.board.proofs.xga_fresh.Goals.{After-number-else-accepts, Then-accepts}
+use Rattle.board.proofs.xga_fresh.Goals.{After-accepts}
 
 -- over a buffer of an image's length, the number is that of the fresh state
 long-number : (image : List ℕ) (size : ℕ) → length image ≡ image_length → refusal_number (fresh_answer size).refusal ≡ fresh_number image size
@@ -28,11 +28,8 @@ long-number image size long =
     (λ holds. rw (eq-eqb _ _ long, fresh_valid size holds))
     (λ other. refl)
 
-told : (c : After-number-else-accepts) → c.accepts.result ≡ is_accepted (fresh_answer c.args.size).refusal
+told : (c : After-accepts) → c.accepts.result ≡ is_accepted (fresh_answer c.args.size).refusal
 told c = c.accepts.ensures ∙ ap (λ (r : Written). is_accepted r.refusal) c.fresh-made.ensures
-
-told-2 : (c : Then-accepts) → c.accepts.result ≡ is_accepted (fresh_answer c.args.size).refusal
-told-2 c = c.accepts.ensures ∙ ap (λ (r : Written). is_accepted r.refusal) c.fresh-made.ensures
 
 pub returns-then-image-eq-BYTES : goal.returns-then-image-eq-BYTES
 unfolding fresh_image
@@ -47,11 +44,11 @@ returns-then-image-eq-BYTES c =
 
 pub returns-then-accepts : goal.returns-then-accepts
 unfolding fresh_number fresh_image saves save_refusal saved
-returns-then-accepts c = let other = ne_eqb _ _ c.if-image-eq-BYTES.false in (simp (sym (told-2 c) ∙ c.if-accepts.true, other), simp other)
+returns-then-accepts c = let other = ne_eqb _ _ c.if-image-eq-BYTES.false in (simp (sym (told (goal.at.returns-then-accepts c).After-accepts) ∙ c.if-accepts.true, other), simp other)
 
 pub returns-else-accepts : goal.returns-else-accepts
 unfolding fresh_number fresh_image saves saved
 returns-else-accepts c =
     let e = c in
     let made = ap (λ (r : Written). refusal_number r.refusal) e.fresh-made.ensures in
-    (simp (sym (told c) ∙ e.if-accepts.false) (c.number-else-accepts.ensures ∙ made), simp (ne_eqb _ _ e.if-image-eq-BYTES.false))
+    (simp (sym (told (goal.at.returns-else-accepts c).After-accepts) ∙ e.if-accepts.false) (c.number-else-accepts.ensures ∙ made), simp (ne_eqb _ _ e.if-image-eq-BYTES.false))

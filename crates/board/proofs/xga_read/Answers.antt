@@ -4,11 +4,10 @@ use Rattle.coprocessor.specs.declared.Coprocessor.{Coprocessor}
 use Rattle.coprocessor.specs.declared.Written.{Written}
 use Rattle.coprocessor.specs.declared.Found.{Found}
 use Rattle.coprocessor.specs.Reads.{read_answer}
-use Rattle.coprocessor.proofs.Opened.{open_refused}
+use Rattle.coprocessor.proofs.Opened.{begun, open_refused, told}
 use Rattle.laws.proofs.LoadedLaws.{loaded_valid}
 use Rattle.board.specs.Calls.{call_answer, read_number}
 use Rattle.board.proofs.xga_read.Goals as goal
-use Rattle.board.proofs.Begun.{told, begun}
 
 pub returns-then-not-accepts : goal.returns-then-not-accepts
 unfolding read_number call_answer

@@ -5,12 +5,11 @@ use Rattle.coprocessor.specs.declared.Written.{Written}
 use Rattle.coprocessor.specs.declared.Drawn.{Drawn}
 use Rattle.coprocessor.specs.Runs.{run_answer, run_memory}
 use Rattle.coprocessor.specs.Images.{image_of, loaded}
-use Rattle.coprocessor.proofs.Opened.{open_refused}
+use Rattle.coprocessor.proofs.Opened.{begun, open_refused, told}
 use Rattle.laws.proofs.LoadedLaws.{loads_length, loaded_valid, saved_valid}
 use Rattle.laws.proofs.RunValid.{run_valid}
 use Rattle.board.specs.Calls.{call_answer, run_number, run_image, run_bytes}
 use Rattle.board.proofs.xga_run.Goals as goal
-use Rattle.board.proofs.Begun.{told, begun}
 
 pub returns-then-not-accepts : goal.returns-then-not-accepts
 unfolding run_number run_image run_bytes call_answer

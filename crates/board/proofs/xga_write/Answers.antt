@@ -11,9 +11,9 @@ use Rattle.coprocessor.specs.Images.{image_of, loaded, saved}
 use Rattle.laws.proofs.LoadedLaws.{loads_length, loaded_valid, saved_valid, save_load}
 use Rattle.laws.proofs.Refused.{write_refused}
 use Rattle.laws.proofs.ValidWrites.{write_valid}
+use Rattle.coprocessor.proofs.Opened.{begun, told}
 use Rattle.board.specs.Calls.{write_number, write_image}
 use Rattle.board.proofs.xga_write.Goals as goal
-use Rattle.board.proofs.Begun.{told, begun}
 
 pub returns-then-not-accepts : goal.returns-then-not-accepts
 unfolding write_number write_image

@@ -7,18 +7,12 @@ use Rattle.runs.specs.Runs.{Run, begun, after}
 use Rattle.runs.proofs.AfterLaws.{after_stop, parts}
 use Rattle.runs.proofs.RunLaws.{after_more, safe_after}
 use Rattle.runs.proofs.run.Goals as goal
-use Rattle.runs.proofs.run.Goals.{After-is_unfinished-going-in-loop-done, After-turn-arg-1}
+use Rattle.runs.proofs.run.Goals.{After-turn-turned, In-loop-done}
 
 -- what the loop's test says of a turn
-test : (c : After-is_unfinished-going-in-loop-done) → let a = c.args in
+test : (c : In-loop-done) → let a = c.args in
     (c.loop-done.done < a.allowance) × (c.loop-done.going ≡ true)
 test c =
-    let less = ltb c.loop-done.done c.args.allowance in
-    (ltb-true _ _ (and_left less c.loop-done.going c.loop-done-test.true), and_right less c.loop-done.going c.loop-done-test.true)
-
-test-2 : (c : After-turn-arg-1) → let a = c.args in
-    (c.loop-done.done < a.allowance) × (c.loop-done.going ≡ true)
-test-2 c =
     let less = ltb c.loop-done.done c.args.allowance in
     (ltb-true _ _ (and_left less c.loop-done.going c.loop-done-test.true), and_right less c.loop-done.going c.loop-done-test.true)
 
@@ -29,7 +23,7 @@ loop-done-init c = (zero-le, refl, refl, c.is_unfinished-going.ensures, λ going
 pub turn-turned-requires : goal.turn-turned-requires
 turn-turned-requires c =
     let at = c.loop-done in
-    let on = test-2 c in
+    let on = test (goal.at.turn-turned-requires c).In-loop-done in
     let safe = at.invariant.4 on.1 in (
       c.plan_of-plan.ensures.0,
       c.plan_of-plan.ensures.1,
@@ -40,8 +34,8 @@ turn-turned-requires c =
     )
 
 -- a turn does some, and no more than are left
-few : (c : After-is_unfinished-going-in-loop-done) → (0 < c.turn-turned.result.done) × (c.loop-done.done + c.turn-turned.result.done ≤ c.args.allowance)
-few c = (c.turn-turned.ensures.0, omega (arith, c.turn-turned.ensures.1, (test c).0))
+few : (c : After-turn-turned) → (0 < c.turn-turned.result.done) × (c.loop-done.done + c.turn-turned.result.done ≤ c.args.allowance)
+few c = (c.turn-turned.ensures.0, omega (arith, c.turn-turned.ensures.1, c.loop-done.invariant.0))
 
 pub loop-done-preserved : goal.loop-done-preserved
 unfolding begun
@@ -49,11 +43,11 @@ loop-done-preserved c =
     let at = c.loop-done in
     let turned = c.turn-turned in
     let s = c.args.setup in
-    let on = test c in
+    let on = test (goal.at.loop-done-preserved c).In-loop-done in
     let size = length c.args.memory.now in
     let more : after s turned.result.done (begun at.pen at.memory) ≡ record { pen = turned.result.pen; memory = _; done = turned.result.done } =
     turned.ensures.2 in (
-      (few c).1,
+      (few (goal.at.loop-done-preserved c).After-turn-turned).1,
       turned.auto.memory ∙ at.invariant.1,
       after_more s at.done turned.result.done _ _ _ _ _ at.invariant.2 more,
       c.is_unfinished-going-in-loop-done.ensures,
@@ -69,13 +63,13 @@ returns c =
     parts _ u (after_stop _ _ _ _ u at.invariant.2 at.invariant.0 stop)
 
 pub overflow_sub-allowance : goal.overflow_sub-allowance
-overflow_sub-allowance c = omega (arith, (test-2 c).0)
+overflow_sub-allowance c = omega (arith, (test (goal.at.overflow_sub-allowance c).In-loop-done).0)
 
 pub overflow_add-done : goal.overflow_add-done
 overflow_add-done c = omega (arith, c.ranges.allowance, c.loop-done.invariant.0, c.turn-turned.ensures.1)
 
 pub loop-done-smaller : goal.loop-done-smaller
-loop-done-smaller c = omega (arith, few c)
+loop-done-smaller c = omega (arith, few (goal.at.loop-done-smaller c).After-turn-turned)
 
 pub shape_of-memory : goal.shape_of-memory
 shape_of-memory c = c.loop-done.invariant.1

@@ -5,21 +5,17 @@ use Rattle.parts.specs.Refusals.{is_accepted}
 use Rattle.coprocessor.specs.Runs.{with_pen, run_refusal, ran_of, run_answer, run_memory}
 use Rattle.coprocessor.proofs.SafeLaws.{run_allowed}
 use Rattle.coprocessor.proofs.Coprocessor.run.Goals as goal
-use Rattle.coprocessor.proofs.Coprocessor.run.Goals.{After-ran-arg-1, Then-not-accepts}
+use Rattle.coprocessor.proofs.Coprocessor.run.Goals.{After-accepts}
 
-answered : (c : After-ran-arg-1) → let a = c.args in
+answered : (c : After-accepts) → let a = c.args in
     c.accepts.result ≡ is_accepted (run_refusal a.self a.memory.now)
 answered c = c.accepts.ensures ∙ ap is_accepted c.run_refusal-refusal.ensures
-
-answered-2 : (c : Then-not-accepts) → let a = c.args in
-    c.accepts.result ≡ is_accepted (run_refusal a.self a.memory.now)
-answered-2 c = c.accepts.ensures ∙ ap is_accepted c.run_refusal-refusal.ensures
 
 pub returns-then-not-accepts : goal.returns-then-not-accepts
 unfolding run_answer run_memory
 returns-then-not-accepts c =
     let a = c.args in
-    let refused = sym (answered-2 c) ∙ c.if-not-accepts.true in (
+    let refused = sym (answered (goal.at.returns-then-not-accepts c).After-accepts) ∙ c.if-not-accepts.true in (
       λ i. record {
         refusal = c.run_refusal-refusal.ensures i;
         done = sym (choose_false (ran_of a.self a.memory.now a.allowance).done 0 refused) i;
@@ -29,4 +25,4 @@ returns-then-not-accepts c =
     )
 
 pub ran-requires : goal.ran-requires
-ran-requires c = run_allowed _ _ (sym (answered c) ∙ c.if-not-accepts.false)
+ran-requires c = run_allowed _ _ (sym (answered (goal.at.ran-requires c).After-accepts) ∙ c.if-not-accepts.false)

@@ -9,7 +9,7 @@ use Rattle.position.specs.Fates.{is_compared, fate_of}
 use Rattle.position.specs.Inner.{is_painted, foreseen_of, Seen}
 use Rattle.position.proofs.Writing.{open_fate, closed_fate}
 use Rattle.position.proofs.judge.judge.Goals as goal
-use Rattle.position.proofs.judge.judge.Goals.{After-is_painted, Else-is_compared, Then-is_compared}
+use Rattle.position.proofs.judge.judge.Goals.{After-is_compared, After-is_painted}
 
 -- whether it may be painted is as foreseen
 foreseen : (c : After-is_painted) (memory : List ℕ) (pen : Pen) → let a = c.args in
@@ -17,19 +17,11 @@ foreseen : (c : After-is_painted) (memory : List ℕ) (pen : Pen) → let a = c.
 foreseen c memory pen seen = sym (c.is_painted.ensures ∙ ap is_painted seen.foreseen)
 
 -- off a 0 mask pixel the condition tells, which is asked of the destination pixel
-condition : (c : Else-is_compared) (memory : List ℕ) (pen : Pen) → let a = c.args in
+condition : (c : After-is_compared) (memory : List ℕ) (pen : Pen) → let a = c.args in
     Seen a.setup memory pen a.sight → fate_of a.setup memory pen ≡ choose c.is_compared.result Compared Painted
 unfolding is_compared
 condition c memory pen seen =
-    let free = foreseen c.before.before.before.before.before memory pen seen ∙ c.if-not-is_painted.false in
-    let off = sym (seen.zero free) ∙ c.if-sight.false in
-    rw (open_fate _ memory pen free, off, c.is_compared.ensures, (seen.target free off).pixel)
-
-condition-2 : (c : Then-is_compared) (memory : List ℕ) (pen : Pen) → let a = c.args in
-    Seen a.setup memory pen a.sight → fate_of a.setup memory pen ≡ choose c.is_compared.result Compared Painted
-unfolding is_compared
-condition-2 c memory pen seen =
-    let free = foreseen c.before.before.before.before.before memory pen seen ∙ c.if-not-is_painted.false in
+    let free = sym (c.is_painted.ensures ∙ ap is_painted seen.foreseen) ∙ c.if-not-is_painted.false in
     let off = sym (seen.zero free) ∙ c.if-sight.false in
     rw (open_fate _ memory pen free, off, c.is_compared.ensures, (seen.target free off).pixel)
 
@@ -42,7 +34,7 @@ returns-then-sight c = λ memory pen seen.
     rw (open_fate _ memory pen free, sym (seen.zero free) ∙ c.if-sight.true)
 
 pub returns-then-is_compared : goal.returns-then-is_compared
-returns-then-is_compared c = λ memory pen seen. rw (condition-2 c memory pen seen, c.if-is_compared.true)
+returns-then-is_compared c = λ memory pen seen. rw (condition (goal.at.returns-then-is_compared c).After-is_compared memory pen seen, c.if-is_compared.true)
 
 pub returns : goal.returns
-returns c = λ memory pen seen. rw (condition c memory pen seen, c.if-is_compared.false)
+returns c = λ memory pen seen. rw (condition (goal.at.returns c).After-is_compared memory pen seen, c.if-is_compared.false)

@@ -11,42 +11,24 @@ use Rattle.position.specs.Inner.{is_painted, foreseen_of}
 use Rattle.position.specs.Within.{Within}
 use Rattle.position.proofs.Writing.{open_inside}
 use Rattle.position.proofs.look.look.Goals as goal
-use Rattle.position.proofs.look.look.Goals.{After-blank, After-blank-then-is_on_zero, After-value, Else-is_on_zero, Else-not-is_painted}
+use Rattle.position.proofs.look.look.Goals.{After-is_painted, Else-not-is_painted}
 
 -- whether it may be painted is as foreseen
-foreseen : (c : After-blank) → let a = c.args in c.is_painted.result ≡ is_painted (foreseen_of a.setup a.pen)
+foreseen : (c : After-is_painted) → let a = c.args in c.is_painted.result ≡ is_painted (foreseen_of a.setup a.pen)
 foreseen c = c.is_painted.ensures ∙ ap is_painted c.foresee-foreseen.ensures
 
-foreseen-2 : (c : After-blank-then-is_on_zero) → let a = c.args in c.is_painted.result ≡ is_painted (foreseen_of a.setup a.pen)
-foreseen-2 c = c.is_painted.ensures ∙ ap is_painted c.foresee-foreseen.ensures
-
-foreseen-3 : (c : After-value) → let a = c.args in c.is_painted.result ≡ is_painted (foreseen_of a.setup a.pen)
-foreseen-3 c = c.is_painted.ensures ∙ ap is_painted c.foresee-foreseen.ensures
-
-foreseen-4 : (c : Else-is_on_zero) → let a = c.args in c.is_painted.result ≡ is_painted (foreseen_of a.setup a.pen)
-foreseen-4 c = c.is_painted.ensures ∙ ap is_painted c.foresee-foreseen.ensures
-
-foreseen-5 : (c : Else-not-is_painted) → let a = c.args in c.is_painted.result ≡ is_painted (foreseen_of a.setup a.pen)
-foreseen-5 c = c.is_painted.ensures ∙ ap is_painted c.foresee-foreseen.ensures
-
 -- a position that may be painted is inside its map and the mask boundary
-inside : (c : Else-is_on_zero) → let a = c.args in
+inside : (c : Else-not-is_painted) → let a = c.args in
     Within a.setup (length a.memory.now) a.pen × (on_map a.setup.brush a.pen ≡ true) × (in_mask a.setup.brush a.pen ≡ true)
 inside c =
-    let start = c in
-    let on = open_inside start.args.setup start.args.memory.now start.args.pen (sym (foreseen-4 c) ∙ c.if-not-is_painted.false) in
-    (start.requires.1, on.0, on.1)
-
-inside-2 : (c : Else-not-is_painted) → let a = c.args in
-    Within a.setup (length a.memory.now) a.pen × (on_map a.setup.brush a.pen ≡ true) × (in_mask a.setup.brush a.pen ≡ true)
-inside-2 c =
-    let start = c in
-    let on = open_inside start.args.setup start.args.memory.now start.args.pen (sym (foreseen-5 c) ∙ c.if-not-is_painted.false) in
-    (start.requires.1, on.0, on.1)
+    let a = c.args in
+    let seen = c.is_painted.ensures ∙ ap is_painted c.foresee-foreseen.ensures in
+    let on = open_inside a.setup a.memory.now a.pen (sym seen ∙ c.if-not-is_painted.false) in
+    (c.requires.1, on.0, on.1)
 
 pub returns-then-not-is_painted : goal.returns-then-not-is_painted
 returns-then-not-is_painted c = let blank = c.blank.ensures in
-    let held = sym (c.if-not-is_painted.true) ∙ foreseen c in
+    let held = sym (c.if-not-is_painted.true) ∙ foreseen (goal.at.returns-then-not-is_painted c).After-is_painted in
     record {
       pattern = blank.0 ∙ c.pattern_read-pattern.ensures;
       foreseen = blank.1 ∙ c.foresee-foreseen.ensures;
@@ -55,7 +37,7 @@ returns-then-not-is_painted c = let blank = c.blank.ensures in
     }
 
 pub is_on_zero-requires : goal.is_on_zero-requires
-is_on_zero-requires c = inside-2 c
+is_on_zero-requires c = inside (goal.at.is_on_zero-requires c).Else-not-is_painted
 
 pub returns-then-is_on_zero : goal.returns-then-is_on_zero
 returns-then-is_on_zero c = let blank = c.blank-then-is_on_zero.ensures in
@@ -68,7 +50,7 @@ returns-then-is_on_zero c = let blank = c.blank-then-is_on_zero.ensures in
     }
 
 pub destination_cell-cell-requires : goal.destination_cell-cell-requires
-destination_cell-cell-requires c = inside c
+destination_cell-cell-requires c = inside (goal.at.destination_cell-cell-requires c).Else-not-is_painted
 
 pub value-requires : goal.value-requires
 value-requires c = rw c.destination_cell-cell.ensures (cell_in_byte _ _ _ _)

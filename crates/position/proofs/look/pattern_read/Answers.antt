@@ -6,30 +6,24 @@ use Rattle.position.specs.Drawn.{is_one, inside_at}
 use Rattle.position.specs.Inner.{pattern_read}
 use Rattle.position.proofs.Safety.{pattern_unread}
 use Rattle.position.proofs.look.pattern_read.Goals as goal
-use Rattle.position.proofs.look.pattern_read.Goals.{After-get-arg-1, After-inside_after-inside, Else-setup}
+use Rattle.position.proofs.look.pattern_read.Goals.{Else-not-setup}
 
-uses : (c : After-get-arg-1) → c.args.setup.travel.pattern.used ≡ true
+uses : (c : Else-not-setup) → c.args.setup.travel.pattern.used ≡ true
 uses c = not-false _ c.if-not-setup.false
-
-uses-2 : (c : After-inside_after-inside) → c.args.setup.travel.pattern.used ≡ true
-uses-2 c = not-false _ c.if-not-setup.false
-
-uses-3 : (c : Else-setup) → c.args.setup.travel.pattern.used ≡ true
-uses-3 c = not-false _ c.if-not-setup.false
 
 pub returns-then-not-setup : goal.returns-then-not-setup
 returns-then-not-setup c = let start = c in
     sym (pattern_unread _ _ _ start.requires.0 (not-true start.args.setup.travel.pattern.used c.if-not-setup.true))
 
 pub get-pixel-requires : goal.get-pixel-requires
-get-pixel-requires c = c.requires.1.pattern (uses c)
+get-pixel-requires c = c.requires.1.pattern (uses (goal.at.get-pixel-requires c).Else-not-setup)
 
 pub returns-then-setup : goal.returns-then-setup
 unfolding pattern_read inside_at is_one
-returns-then-setup c = let used = uses-2 c in
+returns-then-setup c = let used = uses (goal.at.returns-then-setup c).Else-not-setup in
     rw (used, c.if-setup.true, c.inside_after-inside.ensures, c.get-pixel.ensures)
 
 pub returns-else-setup : goal.returns-else-setup
 unfolding pattern_read inside_at is_one
-returns-else-setup c = let used = uses-3 c in
+returns-else-setup c = let used = uses (goal.at.returns-else-setup c).Else-not-setup in
     rw (used, c.if-setup.false, c.get-pixel.ensures)

@@ -7,20 +7,17 @@ use Rattle.rows.specs.Inner.{swept_from}
 use Rattle.runs.specs.Inner.{is_pattern}
 use Rattle.runs.proofs.LaidLaws.{same, alike}
 use Rattle.runs.proofs.lanes.draw_lane.Goals as goal
-use Rattle.runs.proofs.lanes.draw_lane.Goals.{After-slice_known-then-is_pattern-is_in_phase-1, After-sweep-arg-1}
+use Rattle.runs.proofs.lanes.draw_lane.Goals.{Then-is_pattern-is_in_phase}
 
 -- a lane that is swept takes no pattern
-plain : (c : After-slice_known-then-is_pattern-is_in_phase-1) → is_pattern c.args.taken ≡ false
+plain : (c : Then-is_pattern-is_in_phase) → is_pattern c.args.taken ≡ false
 plain c = sym c.is_pattern.ensures ∙ not-true _ (and_left (not c.is_pattern.result) _ c.if-is_pattern-is_in_phase.true)
-
-plain-2 : (c : After-sweep-arg-1) → is_pattern c.args.taken ≡ false
-plain-2 c = sym c.is_pattern.ensures ∙ not-true _ (and_left (not c.is_pattern.result) _ c.if-is_pattern-is_in_phase.true)
 
 pub sweep-requires : goal.sweep-requires
 sweep-requires c =
     let a = c.args in
     let h = c.requires in
-    let one = same a.taken a.order a.lane.format (plain-2 c) h.formed in
+    let one = same a.taken a.order a.lane.format (plain (goal.at.sweep-requires c).Then-is_pattern-is_in_phase) h.formed in
     record {
       from = h.from;
       to = h.to;
@@ -34,8 +31,8 @@ returns-then-is_pattern-is_in_phase c =
     let a = c.args in (
       λ no_way. absurd (false≢true (sym no_way)),
       λ drawn op makes.
-          c.sweep.ensures op (alike a.taken a.lane.format op a.front a.rear (plain c) makes)
-          ∙ (λ j. swept_from (sym (same a.taken a.order a.lane.format (plain c) c.requires.formed) j) op a.lane a.count a.memory.now),
+          c.sweep.ensures op (alike a.taken a.lane.format op a.front a.rear (plain (goal.at.returns-then-is_pattern-is_in_phase c).Then-is_pattern-is_in_phase) makes)
+          ∙ (λ j. swept_from (sym (same a.taken a.order a.lane.format (plain (goal.at.returns-then-is_pattern-is_in_phase c).Then-is_pattern-is_in_phase) c.requires.formed) j) op a.lane a.count a.memory.now),
     )
 
 pub returns-then-not-is_apart : goal.returns-then-not-is_apart

@@ -8,30 +8,12 @@ use Rattle.position.proofs.Safety.{safe_within, safe_with, safe_moved}
 use Rattle.runs.specs.Runs.{Run, begun, positioned, after}
 use Rattle.runs.proofs.AfterLaws.{after_stop, after_on, parts}
 use Rattle.runs.proofs.singly.run_singly.Goals as goal
-use Rattle.runs.proofs.singly.run_singly.Goals.{After-draw-arg-1, After-is_unfinished-going-in-loop-done, After-next-arg-1, After-next-pen}
+use Rattle.runs.proofs.singly.run_singly.Goals.{In-loop-done}
 
 -- what the loop's test says of a turn
-turn : (c : After-draw-arg-1) → let a = c.args in
+turn : (c : In-loop-done) → let a = c.args in
     (c.loop-done.done < a.allowance) × (c.loop-done.going ≡ true)
 turn c =
-    let less = ltb c.loop-done.done c.args.allowance in
-    (ltb-true _ _ (and_left less c.loop-done.going c.loop-done-test.true), and_right less c.loop-done.going c.loop-done-test.true)
-
-turn-2 : (c : After-is_unfinished-going-in-loop-done) → let a = c.args in
-    (c.loop-done.done < a.allowance) × (c.loop-done.going ≡ true)
-turn-2 c =
-    let less = ltb c.loop-done.done c.args.allowance in
-    (ltb-true _ _ (and_left less c.loop-done.going c.loop-done-test.true), and_right less c.loop-done.going c.loop-done-test.true)
-
-turn-3 : (c : After-next-arg-1) → let a = c.args in
-    (c.loop-done.done < a.allowance) × (c.loop-done.going ≡ true)
-turn-3 c =
-    let less = ltb c.loop-done.done c.args.allowance in
-    (ltb-true _ _ (and_left less c.loop-done.going c.loop-done-test.true), and_right less c.loop-done.going c.loop-done-test.true)
-
-turn-4 : (c : After-next-pen) → let a = c.args in
-    (c.loop-done.done < a.allowance) × (c.loop-done.going ≡ true)
-turn-4 c =
     let less = ltb c.loop-done.done c.args.allowance in
     (ltb-true _ _ (and_left less c.loop-done.going c.loop-done-test.true), and_right less c.loop-done.going c.loop-done-test.true)
 
@@ -42,23 +24,23 @@ loop-done-init c = (zero-le, refl, refl, c.is_unfinished-going.ensures, λ going
 pub draw-inside-requires : goal.draw-inside-requires
 draw-inside-requires c =
     let at = c.loop-done in
-    let safe = at.invariant.4 (turn c).1 in
+    let safe = at.invariant.4 (turn (goal.at.draw-inside-requires c).In-loop-done).1 in
     (safe.crossing, safe.depth, c.requires.0 safe.depth, rw at.invariant.1 (safe_within _ _ _ safe))
 
 pub next-pen-requires : goal.next-pen-requires
-next-pen-requires c = (c.loop-done.invariant.4 (turn-3 c).1).pointers
+next-pen-requires c = (c.loop-done.invariant.4 (turn (goal.at.next-pen-requires c).In-loop-done).1).pointers
 
 pub overflow_add-done : goal.overflow_add-done
-overflow_add-done c = omega (arith, (turn-4 c).0)
+overflow_add-done c = omega (arith, (turn (goal.at.overflow_add-done c).In-loop-done).0)
 
 pub loop-done-smaller : goal.loop-done-smaller
-loop-done-smaller c = omega (arith, (turn-2 c).0)
+loop-done-smaller c = omega (arith, (turn (goal.at.loop-done-smaller c).In-loop-done).0)
 
 pub loop-done-preserved : goal.loop-done-preserved
 unfolding positioned crossed
 loop-done-preserved c =
     let at = c.loop-done in
-    let test = turn-2 c in
+    let test = turn (goal.at.loop-done-preserved c).In-loop-done in
     let drawn = c.draw-inside in
     let next = c.next-pen.ensures in
     let s = c.args.setup in

@@ -15,80 +15,21 @@ use Rattle.runs.specs.Inner.{trail_from, error_of, pen_at}
 use Rattle.runs.proofs.StrokedLaws.{stroke_termed}
 use Rattle.runs.proofs.StrokeLaws.{place_held, stroke_done, is_stroke_lem}
 use Rattle.runs.proofs.strokes.go.Goals as goal
-use Rattle.runs.proofs.strokes.go.Goals.{After-done_by, After-drawing_on-arg-1, After-end-arg-1, After-pen_at, After-slice_known-3-1, After-trace-arg-1}
+use Rattle.runs.proofs.strokes.go.Goals.{After-trace-gone, After-turns_of-turns}
 
--- the trail
-abbrev T : After-done_by → Trail
-T c = let a = c.args in trail_from a.setup.brush.destination a.stroke a.x a.y
-
-abbrev T-2 : After-drawing_on-arg-1 → Trail
-T-2 c = let a = c.args in trail_from a.setup.brush.destination a.stroke a.x a.y
-
-abbrev T-3 : After-end-arg-1 → Trail
-T-3 c = let a = c.args in trail_from a.setup.brush.destination a.stroke a.x a.y
-
-abbrev T-4 : After-slice_known-3-1 → Trail
-T-4 c = let a = c.args in trail_from a.setup.brush.destination a.stroke a.x a.y
-
-abbrev T-5 : After-trace-arg-1 → Trail
-T-5 c = let a = c.args in trail_from a.setup.brush.destination a.stroke a.x a.y
-
-held : (c : After-end-arg-1) (i : ℕ) → i ≤ c.count_of-count.result → turns_at (T-3 c) i ≤ c.turns_of-turns.result
-    → place_at (T-3 c).format (T-3 c).base (number_at (T-3 c) i) < length c.args.memory.now
+-- each pixel that is gone to lies in the memory
+held : (c : After-turns_of-turns) → let t = trail_from c.args.setup.brush.destination c.args.stroke c.args.x c.args.y in
+    (i : ℕ) → i ≤ c.count_of-count.result → turns_at t i ≤ c.turns_of-turns.result → place_at t.format t.base (number_at t i) < length c.args.memory.now
 held c i less turn =
     let a = c.args in
     let counted = c.count_of-count.ensures in
     place_held a.setup a.pen a.stroke a.x a.y a.across a.down c.requires.0 _ c.requires.1 c.trail_of-trail.ensures.1 _ _ counted.1 counted.2
     counted.3 c.turns_of-turns.ensures.0 c.turns_of-turns.ensures.1 i less turn
 
-held-2 : (c : After-trace-arg-1) (i : ℕ) → i ≤ c.count_of-count.result → turns_at (T-5 c) i ≤ c.turns_of-turns.result
-    → place_at (T-5 c).format (T-5 c).base (number_at (T-5 c) i) < length c.args.memory.now
-held-2 c i less turn =
-    let a = c.args in
-    let counted = c.count_of-count.ensures in
-    place_held a.setup a.pen a.stroke a.x a.y a.across a.down c.requires.0 _ c.requires.1 c.trail_of-trail.ensures.1 _ _ counted.1 counted.2
-    counted.3 c.turns_of-turns.ensures.0 c.turns_of-turns.ensures.1 i less turn
-
 -- how far it was gone
-gone : (c : After-done_by) → let n = c.trace-gone.result.done in
-    (n ≤ c.count_of-count.result) × (turns_at (T c) n ≤ c.turns_of-turns.result) × (c.trace-gone.result.at ≡ number_at (T c) n) × (c.trace-gone.result.e ≡ error_at (T c) n)
+gone : (c : After-trace-gone) → let t = trail_from c.args.setup.brush.destination c.args.stroke c.args.x c.args.y in let n = c.trace-gone.result.done in
+    (n ≤ c.count_of-count.result) × (turns_at t n ≤ c.turns_of-turns.result) × (c.trace-gone.result.at ≡ number_at t n) × (c.trace-gone.result.e ≡ error_at t n)
 gone c =
-    let e = c.trace-gone.ensures in
-    let n = c.trace-gone.result.done in
-    let same = c.trail_of-trail.ensures.0 in (
-      e.0,
-      subst (λ (t : Trail). turns_at t n ≤ c.turns_of-turns.result) same e.1,
-      subst (λ (t : Trail). c.trace-gone.result.at ≡ number_at t n) same e.2,
-      subst (λ (t : Trail). c.trace-gone.result.e ≡ error_at t n) same e.3,
-    )
-
-gone-2 : (c : After-drawing_on-arg-1) → let n = c.trace-gone.result.done in
-    (n ≤ c.count_of-count.result) × (turns_at (T-2 c) n ≤ c.turns_of-turns.result) × (c.trace-gone.result.at ≡ number_at (T-2 c) n) × (c.trace-gone.result.e ≡ error_at (T-2 c) n)
-gone-2 c =
-    let e = c.trace-gone.ensures in
-    let n = c.trace-gone.result.done in
-    let same = c.trail_of-trail.ensures.0 in (
-      e.0,
-      subst (λ (t : Trail). turns_at t n ≤ c.turns_of-turns.result) same e.1,
-      subst (λ (t : Trail). c.trace-gone.result.at ≡ number_at t n) same e.2,
-      subst (λ (t : Trail). c.trace-gone.result.e ≡ error_at t n) same e.3,
-    )
-
-gone-3 : (c : After-end-arg-1) → let n = c.trace-gone.result.done in
-    (n ≤ c.count_of-count.result) × (turns_at (T-3 c) n ≤ c.turns_of-turns.result) × (c.trace-gone.result.at ≡ number_at (T-3 c) n) × (c.trace-gone.result.e ≡ error_at (T-3 c) n)
-gone-3 c =
-    let e = c.trace-gone.ensures in
-    let n = c.trace-gone.result.done in
-    let same = c.trail_of-trail.ensures.0 in (
-      e.0,
-      subst (λ (t : Trail). turns_at t n ≤ c.turns_of-turns.result) same e.1,
-      subst (λ (t : Trail). c.trace-gone.result.at ≡ number_at t n) same e.2,
-      subst (λ (t : Trail). c.trace-gone.result.e ≡ error_at t n) same e.3,
-    )
-
-gone-4 : (c : After-slice_known-3-1) → let n = c.trace-gone.result.done in
-    (n ≤ c.count_of-count.result) × (turns_at (T-4 c) n ≤ c.turns_of-turns.result) × (c.trace-gone.result.at ≡ number_at (T-4 c) n) × (c.trace-gone.result.e ≡ error_at (T-4 c) n)
-gone-4 c =
     let e = c.trace-gone.ensures in
     let n = c.trace-gone.result.done in
     let same = c.trail_of-trail.ensures.0 in (
@@ -103,44 +44,37 @@ trace-gone-requires c =
     let a = c.args in
     rw c.trail_of-trail.ensures.0 (
       rw c.requires.0.stroke (stroke_termed a.setup a.pen.e a.pen.drawing a.setup.brush.destination a.x a.y),
-      λ i less turn. held-2 c i (omega arith) turn,
+      λ i less turn. held (goal.at.trace-gone-requires c).After-turns_of-turns i (omega arith) turn,
     )
 
 pub end-requires : goal.end-requires
 end-requires c ends =
-    let far = gone-3 c in
-    rw (c.trace-gone.auto.memory, far.2, c.trail_of-trail.ensures.0) (held c _ far.0 far.1)
+    let far = gone (goal.at.end-requires c).After-trace-gone in
+    rw (c.trace-gone.auto.memory, far.2, c.trail_of-trail.ensures.0) (held (goal.at.end-requires c).After-turns_of-turns _ far.0 far.1)
 
 pub error_on-requires : goal.error_on-requires
 error_on-requires c =
-    let far = gone-4 c in
+    let far = gone (goal.at.error_on-requires c).After-trace-gone in
     let a = c.args in
     let small = stroke_termed a.setup a.pen.e a.pen.drawing a.setup.brush.destination a.x a.y in
-    rw far.3 (error_lt (T-4 c) _ (rw c.requires.0.stroke small.0))
+    rw far.3 (error_lt (trail_from a.setup.brush.destination a.stroke a.x a.y) _ (rw c.requires.0.stroke small.0))
 
 pub drawing_on-requires : goal.drawing_on-requires
-drawing_on-requires c = omega (arith, (gone-2 c).0, c.count_of-count.ensures.1, c.requires.0.small)
+drawing_on-requires c = omega (arith, (gone (goal.at.drawing_on-requires c).After-trace-gone).0, c.count_of-count.ensures.1, c.requires.0.small)
 
 -- what ends says
-ends_at : (c : After-done_by) → let n = c.trace-gone.result.done in let a = c.args in
+ends_at : (c : After-trace-gone) → let n = c.trace-gone.result.done in let a = c.args in
     (eqb n a.stroke.steps && ltb n a.allowance) ≡ true → (n ≡ a.stroke.steps) × (n < a.allowance)
 ends_at c ends =
     let n = c.trace-gone.result.done in
     let all = eqb n c.args.stroke.steps in
     (eqb-true _ _ (and_left all _ ends), ltb-true _ _ (and_right all _ ends))
 
-ends_at-2 : (c : After-pen_at) → let n = c.trace-gone.result.done in let a = c.args in
-    (eqb n a.stroke.steps && ltb n a.allowance) ≡ true → (n ≡ a.stroke.steps) × (n < a.allowance)
-ends_at-2 c ends =
-    let n = c.trace-gone.result.done in
-    let all = eqb n c.args.stroke.steps in
-    (eqb-true _ _ (and_left all _ ends), ltb-true _ _ (and_right all _ ends))
-
 pub done_by-requires : goal.done_by-requires
-done_by-requires c ends = omega (arith, c.ranges.allowance, (ends_at-2 c ends).1)
+done_by-requires c ends = omega (arith, c.ranges.allowance, (ends_at (goal.at.done_by-requires c).After-trace-gone ends).1)
 
 -- no more are done than are allowed
-allowed : (c : After-done_by) → let n = c.trace-gone.result.done in let a = c.args in
+allowed : (c : After-trace-gone) → let n = c.trace-gone.result.done in let a = c.args in
     choose (eqb n a.stroke.steps && ltb n a.allowance) (n + 1) n ≤ a.allowance
 allowed c =
     let n = c.trace-gone.result.done in
@@ -150,16 +84,16 @@ allowed c =
 
 pub returns : goal.returns
 returns c = (
-  omega (arith, c.done_by.ensures, allowed c),
+  omega (arith, c.done_by.ensures, allowed (goal.at.returns c).After-trace-gone),
   λ blends inks alike.
       let a = c.args in
       let h = c.requires in
       let s = a.setup in
       let map = s.brush.destination in
-      let t = T c in
+      let t = trail_from a.setup.brush.destination a.stroke a.x a.y in
       let n = c.trace-gone.result.done in
       let ends = eqb n a.stroke.steps && ltb n a.allowance in
-      let far = gone c in
+      let far = gone (goal.at.returns c).After-trace-gone in
       let counted = c.count_of-count.ensures in
       let turning = c.turns_of-turns.ensures in
       let made : ℕ → ℕ = blended (bits_of map.format) blends.foreground 0 in
@@ -175,7 +109,7 @@ returns c = (
       ∙ (λ j. choose ends (with_pixel_no (same j).format (same j).base (far.2 j) (made (pixel_no (same j).format (same j).base (far.2 j) (drew j))) (drew j)) (drew j)) in
       ap (λ (k : ℕ). after s k (begun a.pen a.memory.now)) c.done_by.ensures
       ∙ stroke_done s a.pen a.stroke a.x a.y a.across a.down h.0 _ h.1 c.trail_of-trail.ensures.1 _ _ counted.1 counted.2 counted.3 turning.0 turning.1
-      blends inks a.memory.now ends n far.0 far.1 (λ e. (ends_at c e).0)
+      blends inks a.memory.now ends n far.0 far.1 (λ e. (ends_at (goal.at.returns c).After-trace-gone e).0)
       ∙ (λ j. record { pen = sym pens j; memory = sym memory j; done = sym c.done_by.ensures j }),
 )
 

@@ -3,22 +3,18 @@ use Rattle.std.proofs.Common.{◌≡◌, ℕ, List, sym, ap, ◌∙◌, arith}
 use Rattle.runs.specs.Runs.{Run, begun, after}
 use Rattle.runs.proofs.RunLaws.{reached, after_done, done_some}
 use Rattle.runs.proofs.turns.turn.Goals as goal
-use Rattle.runs.proofs.turns.turn.Goals.{After-slice_known-3-1, Then-ran-gt0}
+use Rattle.runs.proofs.turns.turn.Goals.{After-draw_alike-ran}
 
 pub draw_alike-ran-requires : goal.draw_alike-ran-requires
 draw_alike-ran-requires c = (c.requires.0, c.requires.3)
 
 -- what the positions that are alike leave
-alike : (c : After-slice_known-3-1) → let a = c.args in let r = c.draw_alike-ran.result in
+alike : (c : After-draw_alike-ran) → let a = c.args in let r = c.draw_alike-ran.result in
     after a.setup r.done (begun a.pen a.memory.now) ≡ record { pen = r.pen; memory = c.draw_alike-ran.new.memory; done = r.done }
 alike c = let h = c.requires in c.draw_alike-ran.ensures.1 c.args.blends h.2 h.1
 
-alike-2 : (c : Then-ran-gt0) → let a = c.args in let r = c.draw_alike-ran.result in
-    after a.setup r.done (begun a.pen a.memory.now) ≡ record { pen = r.pen; memory = c.draw_alike-ran.new.memory; done = r.done }
-alike-2 c = let h = c.requires in c.draw_alike-ran.ensures.1 c.args.blends h.2 h.1
-
 pub returns-then-ran-gt0 : goal.returns-then-ran-gt0
-returns-then-ran-gt0 c = (c.if-ran-gt0.true, c.draw_alike-ran.ensures.0, alike-2 c)
+returns-then-ran-gt0 c = (c.if-ran-gt0.true, c.draw_alike-ran.ensures.0, alike (goal.at.returns-then-ran-gt0 c).After-draw_alike-ran)
 
 pub run_singly-requires : goal.run_singly-requires
 run_singly-requires c = let h = c.requires in (λ cut. h.2, λ going. rw c.draw_alike-ran.auto.memory h.3)
@@ -33,7 +29,7 @@ returns c =
     let ran = c.run_singly.ensures in
     let allowed = c.alone.ensures in
     let none : c.draw_alike-ran.result.done ≡ 0 = omega (arith, c.if-ran-gt0.false) in
-    let same = ap (λ (k : ℕ). (after a.setup k (begun a.pen m)).memory) (sym none) ∙ ap (λ (r : Run). r.memory) (alike c) in
+    let same = ap (λ (k : ℕ). (after a.setup k (begun a.pen m)).memory) (sym none) ∙ ap (λ (r : Run). r.memory) (alike (goal.at.returns c).After-draw_alike-ran) in
     let by : (k : ℕ) → after a.setup k (begun a.pen m) ≡ after a.setup k (begun a.pen c.draw_alike-ran.new.memory) = λ k. ap (λ (M : List ℕ). after a.setup k (begun a.pen M)) same in
     let done = ran.1 ∙ sym (ap (λ (r : Run). r.done) (by n)) in (
       rw done (done_some a.setup a.pen m n h.4 allowed.0),
