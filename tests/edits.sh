@@ -15,7 +15,7 @@ for edit in crates/*/must-fail/*.edit; do
     [ -s "$work/named" ] || tell "$edit does not say where it is refused"
     while read -r place law; do
         if [ ! -d "crates/$crate/proofs/$place" ] && [ ! -f "crates/$crate/proofs/$place.antt" ] &&
-            ! grep -rqE "^ *(pub(\([a-z]+\))? )?fn ${place##*/}\b" "crates/$crate/src"; then
+            ! grep -rqE "^ *(pub(\([a-z]+\))? )?(extern \"C\" )?fn ${place##*/}\b" "crates/$crate/src"; then
             tell "$edit names $place, which is no function and no file of proofs"
         fi
         if [ -n "$law" ] && [ -f "crates/$crate/proofs/$place.antt" ] && ! grep -qE "^ *((pub|abbrev|unfoldable) )*$law " "crates/$crate/proofs/$place.antt"; then
