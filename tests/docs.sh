@@ -15,8 +15,8 @@ while read -r place name; do
 done <"$work/cited"
 [ -s "$work/cited" ] || tell 'docs/READING.md cites no place'
 
-# docs/PORT.md also has names that were, and the kit's.
-pages="README.md $(ls docs/*.md docs/manual/*.md | grep -v '/PORT.md$')"
+# docs/PORT.md and docs/DESIGN-PASS.md also have names that were, and the kit's.
+pages="README.md $(ls docs/*.md docs/manual/*.md | grep -vE '/(PORT|DESIGN-PASS).md$')"
 
 # stated FOLDER: what the files in this folder of the crates define or prove
 stated() {
@@ -109,7 +109,7 @@ while read -r number; do tell "decision $number is cited, and docs/DECISIONS.md 
 sed -n 's/^| `\([a-z_]*\)` |.*/\1/p' README.md | cmp -s "$work/crates" - || tell "README.md's table does not have the crates of crates.txt"
 
 # The refusals of the code, by number and name, are those of c/xga.h and of the manual's table.
-sed -n 's/^ *Refusal::\([A-Z][a-z]*\) => \([1-9][0-9]*\),$/\2 \1/p' crates/parts/src/refusals.rt | tr '[:lower:]' '[:upper:]' >"$work/refusals"
+sed -n 's/^ *\([A-Z][a-z]*\) = \([1-9][0-9]*\),$/\2 \1/p' crates/parts/src/refusals.rt | tr '[:lower:]' '[:upper:]' >"$work/refusals"
 sed -n 's/^ *XGA_REFUSED_\([A-Z]*\) = \([0-9]*\).*/\2 \1/p' c/xga.h | cmp -s "$work/refusals" - || tell 'c/xga.h names other refusals than the code'
 sed -n 's/^| \([0-9]*\) | `XGA_REFUSED_\([A-Z]*\)` |.*/\1 \2/p' docs/manual/refusals.md | cmp -s "$work/refusals" - ||
     tell 'docs/manual/refusals.md names other refusals than the code'

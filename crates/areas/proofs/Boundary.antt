@@ -10,7 +10,7 @@ use Rattle.parts.specs.Drawings.{unfinished}
 use Rattle.rules.specs.Codes.{code_at}
 use Rattle.moves.specs.declared.Turn.{Turn}
 use Rattle.moves.specs.declared.Turn.TheVariants.{Stay}
-use Rattle.moves.specs.declared.Step.{Step}
+use Rattle.parts.specs.declared.shapes.Point.{Point}
 use Rattle.moves.specs.declared.Travel.{Travel}
 use Rattle.moves.specs.declared.Pen.{Pen}
 use Rattle.moves.specs.Turns.{circled_by, spot_stepped}
@@ -18,9 +18,9 @@ use Rattle.moves.specs.Steps.{line_step, code_step, goes_up}
 use Rattle.moves.specs.Moves.{destination_by, pen_stepped, pen_with, pen_gone, line_moved, codes_moved, moved_by, moved}
 use Rattle.moves.proofs.CircledLaws.{OnCircle, circled_on}
 use Rattle.moves.proofs.Counters.{drawing_moved}
+use Rattle.places.specs.declared.Mode.TheVariants.{AreaBoundary}
 use Rattle.places.specs.declared.Setup.{Setup}
 use Rattle.places.specs.Places.{is_first, is_last, nulled_by, is_nulled}
-use Rattle.places.proofs.ModeLaws.{boundary_null}
 use Rattle.areas.specs.Crossings.{pen_after, row_after, below, same_place, crosses}
 use Rattle.areas.specs.Outlines.{at_start}
 use Rattle.areas.proofs.Rows.{goes_down, down_seen, up_seen}
@@ -29,7 +29,7 @@ use Rattle.areas.proofs.Reached.{Bounding, turn_of, Reached, none, line, first, 
 -- ---- the row after a position
 
 module _ (s : Travel) (write : s.course.read ≡ false) where
-  step_row : (t : Bool) (step : Step) (e : ℤ) (d d' : Drawing) (pen : Pen)
+  step_row : (t : Bool) (step : Point Turn) (e : ℤ) (d d' : Drawing) (pen : Pen)
       → (choose t (pen_gone s step e d pen) (pen_with d' pen)).pointers.destination.y ≡ circled_by (choose t step.y Stay) 1 pen.pointers.destination.y
   unfolding pen_gone pen_stepped pen_with destination_by spot_stepped circled_by
   step_row true step e d d' pen = rw write
@@ -90,12 +90,12 @@ module _ (s : Travel) (pen : Pen) (bounds : Bounding s) (write : s.course.read �
 
 -- 02, 102: of a line or codes of a write form the mode keeps back exactly the positions that do not cross; of a read form, whose destination stays in its
 -- row, nothing is said here
-pub boundary_drawn : (s : Setup) (pen : Pen) → s.brush.flow.mode ≡ 3 → Bounding s.travel → s.travel.course.read ≡ false
+pub boundary_drawn : (s : Setup) (pen : Pen) → s.brush.flow.mode ≡ AreaBoundary → Bounding s.travel → s.travel.course.read ≡ false
     → at_start pen.drawing ≡ true → OnCircle pen.pointers.destination.y
     → (n : ℕ) → unfinished (pen_after s.travel n pen).drawing ≡ true
     → is_nulled s (pen_after s.travel n pen) ≡ not (crosses s.travel pen n)
 unfolding nulled_by is_nulled leaving
 boundary_drawn s pen mode bounds write start on n going =
     let t = s.travel in
-    boundary_null s.brush.flow.mode (is_first (pen_after t n pen).drawing) (is_last t (pen_after t n pen).drawing) _ mode
-    ∙ ap not (boundary_turns t bounds (pen_after t n pen).e (reached_after t pen bounds start n) going ∙ sym (crosses_turns t pen bounds write start on n))
+    rw mode
+    (ap not (boundary_turns t bounds (pen_after t n pen).e (reached_after t pen bounds start n) going ∙ sym (crosses_turns t pen bounds write start on n)))

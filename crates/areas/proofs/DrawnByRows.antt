@@ -1,5 +1,5 @@
 -- Which positions a record's outline draws: the law of a boundary's rows, for the set-up that the registers make.
-use mathlib.Core.Path.{◌≡◌, refl, sym, ◌∙◌}
+use mathlib.Core.Path.{◌≡◌, refl, sym, ap, ◌∙◌}
 use mathlib.Core.Bool.{Bool, true, false, not, ◌||◌}
 use Prim.Native.Nat.{ℕ, ◌%◌}
 use lib.Dec.{eqb}
@@ -7,9 +7,10 @@ use borrow.Author.Tests.{eqb-true, eq-eqb}
 use Rattle.numbers.proofs.Choices.{choose_false, choose_part}
 use Rattle.parts.specs.Drawings.{unfinished}
 use Rattle.rules.specs.Operations.{function_of, drawing_mode, is_fill, is_block, mode_of, octant_of}
-use Rattle.moves.specs.declared.Step.{Step}
+use Rattle.parts.specs.declared.shapes.Point.{Point}
+use Rattle.moves.specs.declared.Turn.{Turn}
 use Rattle.moves.specs.Decoded.{straight_of, course_of, travel_of}
-use Rattle.places.specs.Decoded.{flow_of, brush_of}
+use Rattle.places.specs.Decoded.{named_mode, flow_of, brush_of}
 use Rattle.places.specs.Places.{is_nulled}
 use Rattle.coprocessor.specs.declared.Coprocessor.{Coprocessor}
 use Rattle.coprocessor.specs.Valid.{valid_of}
@@ -40,7 +41,7 @@ bounding c mode =
     record {
       bounds = eq-eqb _ 3 mode;
       steep = eqb (octant % 2) 1;
-      straight = sym (choose_part (λ (s : Step). s.y) (eqb (octant % 2) 1) _ _);
+      straight = sym (choose_part (λ (s : Point Turn). s.y) (eqb (octant % 2) 1) _ _);
     }
 
 -- 02, 102: a mode 11 line or code of a write form draws a position exactly if the one after it lies in the row below, or the one before it lay there
@@ -54,4 +55,4 @@ unfolding setup_of pen_of travel_of brush_of flow_of course_of mode_of is_block 
 drawn_by_rows c valid function mode start =
     let w = writes (function_of c.registers.figure.operations) function in
     let eleven : mode_of c.registers.figure.operations ≡ 3 = choose_false _ _ w.block ∙ mode in
-    boundary_drawn (setup_of c) (pen_of c) eleven (bounding c eleven) w.read start (destination_on c valid).1
+    boundary_drawn (setup_of c) (pen_of c) (ap named_mode eleven) (bounding c eleven) w.read start (destination_on c valid).1

@@ -28,7 +28,7 @@ use Rattle.areas.specs.Fills.{is_odd, ones_from}
 use Rattle.areas.proofs.FillRows.{ground, Fills, pattern_after, foreground_at, row_after_lem}
 
 -- the same pixels have the same 1s
-ones_same : (m m' : List ℕ) (map : Map) (p : Point) → ((x : ℕ) → x ≤ map.width → pixel_at m map x p.y ≡ pixel_at m' map x p.y)
+ones_same : (m m' : List ℕ) (map : Map) (p : Point ℕ) → ((x : ℕ) → x ≤ map.width → pixel_at m map x p.y ≡ pixel_at m' map x p.y)
     → (n : ℕ) → ones_from m map p n ≡ ones_from m' map p n
 unfolding ones_from
 ones_same m m' map p same zero = refl
@@ -43,7 +43,7 @@ record AtRow (row : ℕ) (u : Run) : Type 0 where
 
 module _ (s : Setup) (f : Fills s) (down : s.travel.course.y ≡ Forth) (t : Run) (start : t.pen.drawing ≡ Block false 0 0)
     (corner : t.pen.pointers.pattern ≡ record { x = 0; y = 0 }) where
-  row_inside : (row : ℕ) (p : Point) → row ≤ (ground s).height → p ≡ record { x = 0; y = row } → is_inside (ground s) p ≡ true
+  row_inside : (row : ℕ) (p : Point ℕ) → row ≤ (ground s).height → p ≡ record { x = 0; y = row } → is_inside (ground s) p ≡ true
   unfolding is_inside
   row_inside row p h e = rw e (and_both _ _ (le-leb 0 (ground s).width zero-le) (le-leb row (ground s).height h))
 
@@ -53,7 +53,7 @@ module _ (s : Setup) (f : Fills s) (down : s.travel.course.y ≡ Forth) (t : Run
   next_row row u another within at =
       let passed = row_after_lem s f u row at.drawing (row_inside row u.pen.pointers.pattern (omega arith) at.pattern) another in
       let step : turned_by s.travel.course.y 1 (ground s).height u.pen.pointers.pattern.y ≡ suc row =
-      ap₂ (λ (turn : Turn) (y : ℕ). turned_by turn 1 (ground s).height y) down (ap (λ (p : Point). p.y) at.pattern)
+      ap₂ (λ (turn : Turn) (y : ℕ). turned_by turn 1 (ground s).height y) down (ap (λ (p : Point ℕ). p.y) at.pattern)
       ∙ forth_inside ((ground s).height + 1) 1 row (omega arith)
       ∙ add-one row in
       record {
@@ -80,6 +80,6 @@ module _ (s : Setup) (f : Fills s) (down : s.travel.course.y ≡ Forth) (t : Run
       let at = at_row y h v in
       rw (after_add s before x t)
       (foreground_at s f u y at.drawing (row_inside y u.pen.pointers.pattern v at.pattern) x across
-      ∙ ap (λ (p : Point). is_odd (ones_from u.memory (ground s) p (suc x))) at.pattern
+      ∙ ap (λ (p : Point ℕ). is_odd (ones_from u.memory (ground s) p (suc x))) at.pattern
       ∙ ap is_odd
       (ones_same u.memory t.memory (ground s) (record { x = 0; y = y }) (λ column inside. pattern_after s f before t column y inside v) (suc x)))

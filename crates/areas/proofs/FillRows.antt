@@ -140,11 +140,11 @@ module _ (s : Setup) (f : Fills s) (t : Run) (row : ℕ) (start : t.pen.drawing 
       record {
         drawing = ap (λ (p : Pen). p.drawing) to ∙ ap (λ (k : ℕ). Block (is_odd (ones s t (suc n))) k row) (add-one n);
         x =
-            ap (λ (p : Point). p.x) pattern
+            ap (λ (p : Point ℕ). p.x) pattern
             ∙ ap (forth ((ground s).width + 1) 1) at.x
             ∙ sym (forth_add ((ground s).width + 1) 1 n t.pen.pointers.pattern.x)
             ∙ ap (λ (k : ℕ). forth ((ground s).width + 1) k t.pen.pointers.pattern.x) (omega arith);
-        y = ap (λ (p : Point). p.y) pattern ∙ at.y;
+        y = ap (λ (p : Point ℕ). p.y) pattern ∙ at.y;
       }
 
   at_column : (n : ℕ) → n ≤ s.travel.figure.dimensions.x → AtColumn s t row n (after s n t)

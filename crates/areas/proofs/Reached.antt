@@ -16,7 +16,7 @@ use Rattle.parts.specs.Drawings.{unfinished}
 use Rattle.rules.specs.Codes.{code_at}
 use Rattle.moves.specs.declared.Turn.{Turn}
 use Rattle.moves.specs.declared.Turn.TheVariants.{Stay, Forth, Back}
-use Rattle.moves.specs.declared.Step.{Step}
+use Rattle.parts.specs.declared.shapes.Point.{Point}
 use Rattle.moves.specs.declared.Travel.{Travel}
 use Rattle.moves.specs.Steps.{line_step, code_step, moves_row, goes_up}
 use Rattle.moves.specs.Moves.{rises, code_passed}
@@ -73,7 +73,7 @@ module _ (s : Travel) where
     line_turn e = by (lt_z e (pos 0))
       where
         by : (low : Bool)
-            → (choose {A = Step} low s.course.straight (record { x = s.course.x; y = s.course.y })).y
+            → (choose {A = Point Turn} low s.course.straight (record { x = s.course.x; y = s.course.y })).y
             ≡ choose (not low || b.steep) s.course.y Stay
         by true = b.straight
         by false = refl

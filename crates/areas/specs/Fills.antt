@@ -31,7 +31,7 @@ unfoldable pub foreground_after : Coprocessor → List ℕ → ℕ → Bool
 foreground_after c memory n = is_foreground (setup_of c) (ran_of c memory n).memory (ran_of c memory n).pen
 
 -- 003, Area Fill; 01, Maps and pointers: the 1s of the pattern map among the first n positions from this pointer on, to the right, wrapping at its edge
-unfoldable pub ones_from : List ℕ → Map → Point → ℕ → ℕ
+unfoldable pub ones_from : List ℕ → Map → Point ℕ → ℕ → ℕ
 ones_from memory map p zero = 0
 ones_from memory map p (suc n) = ones_from memory map p n + choose (eqb (pixel_at memory map (forth (map.width + 1) n p.x) p.y) 0) 0 1
 

@@ -11,8 +11,8 @@ use Rattle.console.specs.Commands.{line_command}
 use Rattle.console.specs.Gathered.{command_in}
 use Rattle.console.proofs.GatherLaws.{buffer_after, counts_after, buffer_length, line_gathered, buffer_last, counts_last, counts_some}
 use Rattle.bench.specs.Printed.{byte_before, lines_of, BenchState, state_after, line_text, state_after_all, text_of_all, first_state, printed}
-use Rattle.bench.specs.Inner.{Session, session_of, first_bench, line_ended, byte_gathered, byte_taken, bytes_taken, last_ended, with_text, input_ended}
-use Rattle.bench.specs.Played.{first_reading, progress_of, first_progress}
+use Rattle.bench.specs.Inner.{Session, first_session, line_ended, byte_gathered, byte_taken, bytes_taken, last_ended, with_text, input_ended}
+use Rattle.bench.specs.Played.{begun, first_progress}
 
 -- ---- the lines of an input
 
@@ -125,7 +125,7 @@ follows [] buffer came s text room = follows_end buffer came s text room
 follows (b ∷ bytes) buffer came s text room = follows_by buffer came s text room b bytes (eqb b 10) refl (follows bytes)
 
 follows_input : (input : List ℕ) → Follows input first_progress.session (lines_of input) first_state
-unfolding size_holds fresh_answer session_of first_bench first_reading progress_of first_progress first_state bytes_before buffer_after counts_after
+unfolding size_holds fresh_answer first_session begun first_progress first_state bytes_before buffer_after counts_after
 follows_input input = follows input (replicate 256 0) [] first_state [] refl
 
 -- the input's bytes leave what its lines leave
@@ -134,5 +134,5 @@ lines_taken input = (follows_input input).left
 
 -- and print what is to be printed
 pub input_printed : (input : List ℕ) → (input_ended (bytes_taken input first_progress.session)).text ≡ printed input
-unfolding with_text input_ended session_of first_bench first_reading progress_of first_progress printed
+unfolding with_text input_ended first_session begun first_progress printed
 input_printed input = rw ((follows_input input).text, ap (λ (s : BenchState). s.memory) (follows_input input).left)

@@ -3,8 +3,8 @@ use mathlib.Core.Path.{◌≡◌, refl, sym, ap, ◌∙◌}
 use mathlib.Core.List.{List, [], ◌++◌}
 use Prim.Native.Nat.{ℕ}
 use Rattle.bench.specs.Printed.{printed}
-use Rattle.bench.specs.Inner.{Session, session_of, first_bench, bytes_taken, with_text, input_ended}
-use Rattle.bench.specs.Played.{first_reading, Progress, progress_of, first_progress, turned, Reads, none, again, heard, told}
+use Rattle.bench.specs.Inner.{Session, first_session, bytes_taken, with_text, input_ended}
+use Rattle.bench.specs.Played.{Progress, begun, first_progress, turned, Reads, none, again, heard, told}
 use Rattle.bench.proofs.SessionLaws.{bytes_append, bytes_apart, end_apart}
 use Rattle.bench.proofs.PrintedLaws.{input_printed}
 
@@ -39,5 +39,5 @@ ended_printed q came said h = rw (h.text, h.left) (end_apart (bytes_taken came f
 
 -- all that was handed on, with the last line and the memory after the reads, is what is to be printed for what came
 pub reads_printed : {q : Progress} (reads : Reads first_progress q) → told reads ++ (input_ended q.session).text ≡ printed (heard reads)
-unfolding session_of first_bench first_reading progress_of first_progress
+unfolding first_session begun first_progress
 reads_printed {q} reads = ended_printed q (heard reads) (told reads) (heard_all first_progress refl reads)

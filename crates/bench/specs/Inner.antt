@@ -1,5 +1,5 @@
 -- How the program goes byte by byte: what its functions promise each other. That it prints what `printed` says is proved (proofs/PrintedLaws.antt).
-use Rattle.std.specs.Prelude.{List, [], ◌∷◌, ◌++◌, ℕ, length, take, set, ltb, eqb}
+use Rattle.std.specs.Prelude.{List, [], ◌∷◌, ◌++◌, ℕ, length, replicate, set, ltb, eqb}
 use Rattle.numbers.specs.Choose.{choose}
 use Rattle.coprocessor.specs.declared.Coprocessor.{Coprocessor}
 use Rattle.coprocessor.specs.Fresh.{fresh_answer}
@@ -7,6 +7,7 @@ use Rattle.console.specs.Answers.{told_of, memory_after}
 use Rattle.console.specs.Gathered.{count_after, command_in}
 use Rattle.console.specs.Texts.{answer_text, memory_text}
 use Rattle.bench.specs.declared.session.Bench.{Bench}
+use Rattle.bench.specs.Text.{waiting}
 use Rattle.bench.specs.Printed.{line_after}
 
 -- the bench between two bytes: the record, the memory, the line under way in its buffer, that line's number, and the text that waits
@@ -18,24 +19,28 @@ pub record Session : Type 0 where
   pub line : ℕ
   pub text : List ℕ
 
-unfoldable pub session_of : Bench → (memory buffer out : List ℕ) → Session
-session_of bench memory buffer out =
+unfoldable pub session_of : Bench → Session
+session_of bench =
     record {
       board = bench.board;
-      memory = memory;
-      buffer = buffer;
-      count = bench.count;
-      line = bench.line;
-      text = take bench.laid out;
+      memory = bench.memory;
+      buffer = bench.line.bytes;
+      count = bench.line.count;
+      line = bench.number;
+      text = waiting bench.text;
     }
 
--- before the first byte
-unfoldable pub first_bench : Bench
-first_bench = record { board = (fresh_answer 64).coprocessor; count = 0; line = 1; laid = 0 }
-
--- the same with no text that waits
-unfoldable pub emptied : Bench → Bench
-emptied bench = record { board = bench.board; count = bench.count; line = bench.line; laid = 0 }
+-- before the first byte: over 64 zero bytes, with nothing in the buffer and no text that waits
+unfoldable pub first_session : Session
+first_session =
+    record {
+      board = (fresh_answer 64).coprocessor;
+      memory = replicate 64 0;
+      buffer = replicate 256 0;
+      count = 0;
+      line = 1;
+      text = [];
+    }
 
 -- at a line's end its command is done, its answer waits, and the next line begins
 unfoldable pub line_ended : Session → Session

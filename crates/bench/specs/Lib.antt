@@ -1,4 +1,5 @@
 pub mod Printed
 pub mod Sample
+pub mod Text
 pub mod Inner
 pub mod Played

@@ -1,12 +1,8 @@
 -- How the program goes read by read, and what it promises of the whole input.
-use Rattle.std.specs.Prelude.{◌≡◌, Bool, true, false, ◌&&◌, List, [], ◌++◌, ℕ, ◌-◌, length, replicate, take, ltb}
-use Rattle.bench.specs.declared.Reading.{Reading}
+use Rattle.std.specs.Prelude.{◌≡◌, Bool, true, false, ◌&&◌, List, [], ◌++◌, ℕ, ◌-◌, length, take, ltb}
+use Rattle.bench.specs.declared.session.Bench.{Bench}
 use Rattle.bench.specs.Printed.{printed}
-use Rattle.bench.specs.Inner.{Session, session_of, first_bench, bytes_taken, with_text, input_ended}
-
--- before the first read: as many are left as a number of 64 bits can count
-unfoldable pub first_reading : Reading
-first_reading = record { bench = first_bench; more = true; left = 18446744073709551615 }
+use Rattle.bench.specs.Inner.{Session, session_of, first_session, bytes_taken, with_text, input_ended}
 
 -- whether to read again
 unfoldable pub reads_on : (more : Bool) (left : ℕ) → Bool
@@ -18,13 +14,16 @@ pub record Progress : Type 0 where
   pub more : Bool
   pub left : ℕ
 
-unfoldable pub progress_of : Reading → (memory buffer out : List ℕ) → Progress
-progress_of reading memory buffer out =
-    record { session = session_of reading.bench memory buffer out; more = reading.more; left = reading.left }
+unfoldable pub progress_of : Bench → (more : Bool) (left : ℕ) → Progress
+progress_of bench more left = record { session = session_of bench; more = more; left = left }
+
+-- before the first read: as many are left as a number of 64 bits can count
+unfoldable pub begun : Session → Progress
+begun session = record { session = session; more = true; left = 18446744073709551615 }
 
 -- over 64 zero bytes, with nothing in the buffer and no text that waits
 unfoldable pub first_progress : Progress
-first_progress = progress_of first_reading (replicate 64 0) (replicate 256 0) []
+first_progress = begun first_session
 
 -- one read: these bytes came, and what they print was handed on; none came at the input's end
 unfoldable pub turned : (piece : List ℕ) → Progress → Progress
@@ -40,6 +39,13 @@ pub record Turned (held : List ℕ) (p q : Progress) : Type 0 where
 pub data Reads (p : Progress) : Progress → Type 0 where
   none : Reads p p
   again : {q : Progress} → Reads p q → reads_on q.more q.left ≡ true → (piece : List ℕ) → Reads p (turned piece q)
+
+-- reads from this session on to the input's end, which leave that one
+pub record ReadToEnd (first end : Session) : Type 0 where
+  pub last : Progress
+  pub reads : Reads (begun first) last
+  pub ended : reads_on last.more last.left ≡ false
+  pub same : end ≡ last.session
 
 -- the bytes that came in them
 unfoldable pub heard : {p q : Progress} → Reads p q → List ℕ

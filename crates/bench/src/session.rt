@@ -3,158 +3,133 @@
 ghost use Rattle.std.specs.Prelude.{◌≡◌, ◌++◌, ◌+◌, ◌*◌, ◌≤◌, length, take};
 ghost use Rattle.console.specs.Texts.{answer_text, memory_text};
 ghost use Rattle.bench.specs.Printed.{line_after};
-ghost use Rattle.bench.specs.Inner.{first_bench, session_of, line_ended, byte_taken, bytes_taken, last_ended, input_ended};
+ghost use Rattle.bench.specs.Inner.{first_session, session_of, with_text, line_ended, byte_taken, bytes_taken, last_ended, input_ended};
 
+use crate::text::Text;
 use console::Answer;
 use console::answers::obey;
-use console::gather::{command_in, gather};
-use console::texts::{answer_text, memory_text, put};
+use console::gather::Line;
+use console::texts::{answer_text, memory_text};
 use coprocessor::Coprocessor;
 
-// The record, how many bytes of the line under way have come, that line's number, and how many bytes of text wait.
-#[derive(Clone, Copy)]
+// The record, its memory, the line under way, that line's number, and the text that waits.
+#[derive(Drop)]
 pub(crate) struct Bench {
-    pub(crate) board: Coprocessor,
-    pub(crate) count: usize,
-    pub(crate) line: u64,
-    pub(crate) laid: usize,
-}
-
-// A fresh state of 64 bytes, before line 1.
-pub(crate) fn first_bench() -> Bench
-    ensures { result ≡ first_bench }
-{
-    let made = Coprocessor::fresh(64);
-    let board = made.coprocessor;
-    Bench {
-        board,
-        count: 0,
-        line: 1,
-        laid: 0,
-    }
+    board: Coprocessor,
+    memory: [u8; 64],
+    line: Line<256>,
+    number: u64,
+    pub(crate) text: Text,
 }
 
 // The number after this one; the last that fits stays.
+#[tactic(auto, unfolding(crate::specs::Printed::line_after))]
 fn next_line(line: u64) -> u64
     ensures { result ≡ line_after line }
 {
-    if line < u64::MAX { line + 1 } else { line }
+    line.saturating_add(1)
 }
 
-// Lays the answer to the line of this number after the text that waits, and answers how much waits then.
-fn lay_answer(answer: Answer, line: u64, out: &mut [u8; 65536], laid: usize) -> usize
-    requires { laid + 40 ≤ 65536 }
-    ensures { (take result out.new ≡ take laid out.old ++ answer_text answer line) × (result ≤ laid + 40) }
-{
-    let mut text = [0u8; 40];
-    let n = answer_text(answer, line, &mut text);
-    put(out, laid, &text[..n])
-}
-
-// Lays the memory after the text that waits, and answers how much waits then.
-fn lay_memory(memory: &[u8; 64], out: &mut [u8; 65536], laid: usize) -> usize
-    requires { laid + 192 ≤ 65536 }
-    ensures { (take result out.new ≡ take laid out.old ++ memory_text memory.now) × (result ≤ laid + 192) }
-{
-    let mut text = [0u8; 192];
-    memory_text(memory, &mut text);
-    put(out, laid, &text)
-}
-
-// Does the line in the buffer, lays its answer after the text that waits, and begins the next line.
-fn end_line(bench: Bench, buffer: &[u8; 256], memory: &mut [u8; 64], out: &mut [u8; 65536]) -> Bench
-    requires { bench.laid + 40 ≤ 65536 }
-    ensures { (session_of result memory.new buffer.now out.new
-        ≡ line_ended (session_of bench memory.old buffer.now out.old)) × (result.laid ≤ bench.laid + 40) }
-{
-    let command = command_in(buffer, bench.count);
-    let board = bench.board;
-    let told = obey(command, board, memory);
-    let answer = told.answer;
-    let next = told.coprocessor;
-    Bench {
-        board: next,
-        count: 0,
-        line: next_line(bench.line),
-        laid: lay_answer(answer, bench.line, out, bench.laid),
+impl Bench {
+    // A fresh state over 64 zero bytes, before line 1.
+    #[tactic(auto, unfolding(crate::specs::Inner::session_of, crate::specs::Inner::first_session))]
+    pub(crate) fn fresh() -> Self
+        ensures session { session_of result ≡ first_session }
+        ensures none { result.text.laid ≡ 0 }
+    {
+        Bench {
+            board: Coprocessor::fresh(64).coprocessor,
+            memory: [0; 64],
+            line: Line {
+                bytes: [0; 256],
+                count: 0,
+            },
+            number: 1,
+            text: Text::empty(),
+        }
     }
-}
 
-// Takes one byte of the input.
-fn hear_byte(
-    bench: Bench,
-    byte: u8,
-    buffer: &mut [u8; 256],
-    memory: &mut [u8; 64],
-    out: &mut [u8; 65536],
-) -> Bench
-    requires { bench.laid + 40 ≤ 65536 }
-    ensures { (session_of result memory.new buffer.new out.new
-        ≡ byte_taken byte (session_of bench memory.old buffer.old out.old)) × (result.laid ≤ bench.laid + 40) }
-{
-    if byte == b'\n' {
-        return end_line(bench, buffer, memory, out);
+    // Lays the answer to the line under way after the text that waits.
+    fn lay_answer(&mut self, answer: Answer)
+        requires { self.old.text.laid + 40 ≤ 65536 }
+        ensures session { session_of self.new
+            ≡ with_text ((session_of self.old).text ++ answer_text answer self.old.number) (session_of self.old) }
+        ensures room { self.new.text.laid ≤ self.old.text.laid + 40 }
+    {
+        let mut text = [0; 40];
+        let n = answer_text(answer, self.number, &mut text);
+        self.text.lay(&text[..n]);
     }
-    let board = bench.board;
-    Bench {
-        board,
-        count: gather(buffer, bench.count, byte),
-        line: bench.line,
-        laid: bench.laid,
-    }
-}
 
-// Takes a piece of the input byte by byte.
-pub(crate) fn take_piece(
-    bench: Bench,
-    piece: &[u8],
-    buffer: &mut [u8; 256],
-    memory: &mut [u8; 64],
-    out: &mut [u8; 65536],
-) -> Bench
-    requires { bench.laid + 40 * length piece.now ≤ 65536 }
-    ensures { (session_of result memory.new buffer.new out.new
-        ≡ bytes_taken piece.now (session_of bench memory.old buffer.old out.old)) × (result.laid ≤ 65536) }
-{
-    let mut state = bench;
-    let mut i = 0;
-    while i < piece.len() {
-        state = hear_byte(state, piece[i], buffer, memory, out);
-        i += 1;
+    // Lays the memory after the text that waits.
+    #[tactic(auto, unfolding(crate::specs::Inner::session_of, crate::specs::Inner::with_text))]
+    fn lay_memory(&mut self)
+        requires { self.old.text.laid + 192 ≤ 65536 }
+        ensures { session_of self.new
+            ≡ with_text ((session_of self.old).text ++ memory_text (session_of self.old).memory) (session_of self.old) }
+    {
+        let mut text = [0; 192];
+        memory_text(&self.memory, &mut text);
+        self.text.lay(&text);
     }
-    state
-}
 
-// Does the last line, if it has any byte.
-fn end_last(bench: Bench, buffer: &[u8; 256], memory: &mut [u8; 64], out: &mut [u8; 65536]) -> Bench
-    requires { bench.laid + 40 ≤ 65536 }
-    ensures { (session_of result memory.new buffer.now out.new
-        ≡ last_ended (session_of bench memory.old buffer.now out.old)) × (result.laid ≤ bench.laid + 40) }
-{
-    if 0 < bench.count {
-        end_line(bench, buffer, memory, out)
-    } else {
-        bench
+    // Does the line in the buffer, lays its answer after the text that waits, and begins the next line.
+    fn end_line(&mut self)
+        requires { self.old.text.laid + 40 ≤ 65536 }
+        ensures session { session_of self.new ≡ line_ended (session_of self.old) }
+        ensures room { self.new.text.laid ≤ self.old.text.laid + 40 }
+    {
+        let command = self.line.command();
+        let told = obey(command, self.board, &mut self.memory);
+        self.board = told.coprocessor;
+        self.lay_answer(told.answer);
+        self.line.count = 0;
+        self.number = next_line(self.number);
     }
-}
 
-// At the input's end does the last line, and shows the memory.
-pub(crate) fn end_input(
-    bench: Bench,
-    buffer: &[u8; 256],
-    memory: &mut [u8; 64],
-    out: &mut [u8; 65536],
-) -> Bench
-    requires { bench.laid + 232 ≤ 65536 }
-    ensures { (session_of result memory.new buffer.now out.new
-        ≡ input_ended (session_of bench memory.old buffer.now out.old)) × (result.laid ≤ 65536) }
-{
-    let ended = end_last(bench, buffer, memory, out);
-    let board = ended.board;
-    Bench {
-        board,
-        count: ended.count,
-        line: ended.line,
-        laid: lay_memory(memory, out, ended.laid),
+    // Takes one byte of the input.
+    #[tactic(auto, unfolding(crate::specs::Inner::session_of, crate::specs::Inner::byte_gathered, crate::specs::Inner::byte_taken))]
+    fn hear_byte(&mut self, byte: u8)
+        requires { self.old.text.laid + 40 ≤ 65536 }
+        ensures session { session_of self.new ≡ byte_taken byte (session_of self.old) }
+        ensures room { self.new.text.laid ≤ self.old.text.laid + 40 }
+    {
+        if byte == b'\n' {
+            self.end_line();
+        } else {
+            self.line.gather(byte);
+        }
+    }
+
+    // Takes a piece of the input byte by byte.
+    pub(crate) fn take_piece(&mut self, piece: &[u8])
+        requires { self.old.text.laid + 40 * length piece.now ≤ 65536 }
+        ensures { session_of self.new ≡ bytes_taken piece.now (session_of self.old) }
+    {
+        for &byte in piece {
+            self.hear_byte(byte);
+        }
+    }
+
+    // Does the last line, if it has any byte.
+    #[tactic(auto, unfolding(crate::specs::Inner::session_of, crate::specs::Inner::last_ended))]
+    fn end_last(&mut self)
+        requires { self.old.text.laid + 40 ≤ 65536 }
+        ensures session { session_of self.new ≡ last_ended (session_of self.old) }
+        ensures room { self.new.text.laid ≤ self.old.text.laid + 40 }
+    {
+        if 0 < self.line.count {
+            self.end_line();
+        }
+    }
+
+    // At the input's end does the last line, and shows the memory.
+    #[tactic(auto, unfolding(crate::specs::Inner::input_ended))]
+    pub(crate) fn end_input(&mut self)
+        requires { self.old.text.laid + 232 ≤ 65536 }
+        ensures { session_of self.new ≡ input_ended (session_of self.old) }
+    {
+        self.end_last();
+        self.lay_memory();
     }
 }

@@ -69,36 +69,36 @@ written offset length value c = write_answer (record { offset = offset; length =
 unfoldable pub answers : List Act → Coprocessor → List ℕ → Bool
 answers [] c bytes = true
 answers (write offset length value ∷ calls) c bytes =
-    is_accepted (written offset length value c).refusal && answers calls (written offset length value c).coprocessor bytes
+    is_accepted (written offset length value c).outcome && answers calls (written offset length value c).coprocessor bytes
 answers (refused offset length value number ∷ calls) c bytes =
-    eqb (refusal_number (written offset length value c).refusal) number
+    eqb (refusal_number (written offset length value c).outcome) number
     && answers calls (written offset length value c).coprocessor bytes
 answers (read offset length value ∷ calls) c bytes =
-    is_accepted (read_answer c offset length).refusal
+    is_accepted (read_answer c offset length).outcome
     && eqb (read_answer c offset length).value value
     && answers calls c bytes
 answers (unread offset length number ∷ calls) c bytes =
-    eqb (refusal_number (read_answer c offset length).refusal) number
+    eqb (refusal_number (read_answer c offset length).outcome) number
     && eqb (read_answer c offset length).value 0
     && answers calls c bytes
 answers (run allowance done ∷ calls) c bytes =
-    is_accepted (run_answer c bytes allowance).refusal
+    is_accepted (run_answer c bytes allowance).outcome
     && eqb (run_answer c bytes allowance).done done
     && answers calls (run_answer c bytes allowance).coprocessor (run_memory c bytes allowance)
 answers (carried size ∷ calls) c bytes =
     is_accepted (save_refusal c (zeros 115))
-    && is_accepted (load_answer (fresh_answer size).coprocessor (saved c (zeros 115))).refusal
+    && is_accepted (load_answer (fresh_answer size).coprocessor (saved c (zeros 115))).outcome
     && answers calls (load_answer (fresh_answer size).coprocessor (saved c (zeros 115))).coprocessor bytes
 answers (altered place byte number ∷ calls) c bytes =
-    eqb (refusal_number (load_answer c (set (saved c (zeros 115)) place byte)).refusal) number
+    eqb (refusal_number (load_answer c (set (saved c (zeros 115)) place byte)).outcome) number
     && answers calls (load_answer c (set (saved c (zeros 115)) place byte)).coprocessor bytes
 answers (unsaved length number ∷ calls) c bytes =
     eqb (refusal_number (save_refusal c (zeros length))) number
     && same (saved c (zeros length)) (zeros length)
     && answers calls c bytes
 answers (unloaded image number ∷ calls) c bytes =
-    eqb (refusal_number (load_answer c image).refusal) number && answers calls (load_answer c image).coprocessor bytes
-answers (fresh size number ∷ calls) c bytes = eqb (refusal_number (fresh_answer size).refusal) number && answers calls c bytes
+    eqb (refusal_number (load_answer c image).outcome) number && answers calls (load_answer c image).coprocessor bytes
+answers (fresh size number ∷ calls) c bytes = eqb (refusal_number (fresh_answer size).outcome) number && answers calls c bytes
 answers (memory seen ∷ calls) c bytes = same bytes seen && answers calls c bytes
 answers (changed before ∷ calls) c bytes = not (same bytes before) && answers calls c bytes
 answers (state number ∷ calls) c bytes = eqb (counters_of c.drawing).state number && answers calls c bytes
@@ -106,7 +106,7 @@ answers (state number ∷ calls) c bytes = eqb (counters_of c.drawing).state num
 -- whether a fresh coprocessor over the memory plays so
 unfoldable pub played : Play → Bool
 played p =
-    is_accepted (fresh_answer (length p.bytes)).refusal
+    is_accepted (fresh_answer (length p.bytes)).outcome
     && answers p.calls (fresh_answer (length p.bytes)).coprocessor p.bytes
 
 -- each of these is played so

@@ -3,15 +3,17 @@ use mathlib.Core.Path.{◌≡◌, refl, sym, ap, ◌∙◌}
 use mathlib.Core.List.{List, [], ◌∷◌}
 use mathlib.Core.Logic.{⊎_elim}
 use Prim.Native.Nat.{ℕ, ◌+◌, ◌-◌, ◌*◌, ◌/◌, ◌%◌, ◌^◌, ◌≤◌, ◌<◌, min}
-use native.Mathlib.Nat.{add-mul, mul_assoc, le-mul_of_pos_right, mul-le-mul_left, le_of_lt, min-eq_left, min-eq_right}
+use native.Mathlib.Nat.{add-mul, mul_assoc, le-mul_of_pos_right, le_of_lt, min-eq_left, min-eq_right}
 use native.Mathlib.Nat.{mod-lt, mod-eq_of_lt, mod-add-div, add-mul-mod_self_left}
 use native.Mathlib.Numerals.{add-one}
 use native.Mathlib.Omega.{arith}
 use lib.ListN.{length, get_or, drop, drop_of_length-le}
 use lib.Seq.{drop-cons}
 use borrow.Author.Tests.{lt-ltb, le-ltb}
+use borrow.Author.Tests.{tests}
 use Rattle.numbers.proofs.Order.{lt_or_le}
-use Rattle.console.specs.declared.Number.TheVariants.{Is, Not}
+use Rattle.std.proofs.Common.{Some, None}
+use Rattle.std.specs.Char.{digit_value}
 use Rattle.console.specs.declared.Wide.{Wide}
 use Rattle.console.specs.declared.Wide.TheVariants.{Low, Largest}
 use Rattle.console.specs.Digits.{digit_of, digits, value, fitted, number_from, word_number}
@@ -61,12 +63,12 @@ fitted_on wide base some n (b ∷ bs) =
 -- ---- digit by digit
 
 -- with no digit to follow it is the number so far
-pub number_end : (wide : Wide) (base n : ℕ) (s : List ℕ) (i : ℕ) → length s ≤ i → n < 2 ^ 32 → number_from wide base n (drop i s) ≡ Is n
+pub number_end : (wide : Wide) (base n : ℕ) (s : List ℕ) (i : ℕ) → length s ≤ i → n < 2 ^ 32 → number_from wide base n (drop i s) ≡ Some n
 unfolding number_from digits value
 number_end wide base n s i past small = rw (drop_of_length-le s past, fitted_small wide n small)
 
 -- a byte that is no digit makes it none
-pub number_stray : (wide : Wide) (base n : ℕ) (s : List ℕ) (i : ℕ) → i < length s → base ≤ digit_of (get_or s i 0) → number_from wide base n (drop i s) ≡ Not
+pub number_stray : (wide : Wide) (base n : ℕ) (s : List ℕ) (i : ℕ) → i < length s → base ≤ digit_of (get_or s i 0) → number_from wide base n (drop i s) ≡ None
 unfolding number_from digits
 number_stray wide base n s i inside stray = rw (drop-cons s i 0 inside, le-ltb (digit_of (get_or s i 0)) base stray)
 
@@ -83,11 +85,11 @@ unfolding word_number
 number_begins wide base [] some = absurd (omega arith)
 number_begins wide base (b ∷ bs) some = refl
 
-pub number_none : (wide : Wide) (base : ℕ) (s : List ℕ) → length s ≡ 0 → Not ≡ word_number wide base s
-unfolding word_number
-number_none wide base [] none = refl
-number_none wide base (b ∷ bs) none = absurd (omega arith)
+-- a character's value as a digit is the byte's, where it is below the base
+pub digit_none : (byte base : ℕ) → base ≤ 16 → base ≤ digit_value byte → base ≤ digit_of byte
+unfolding digit_of
+digit_none byte base few none = grind (arith, tests)
 
--- a number of 32 bits has room for one more digit in 64
-pub room : (n base : ℕ) → n < 2 ^ 32 → base ≤ 16 → n * base ≤ n * 16
-room n base small few = mul-le-mul_left n few
+pub digit_some : (byte base : ℕ) → base ≤ 16 → digit_value byte < base → digit_of byte ≡ digit_value byte
+unfolding digit_of
+digit_some byte base few some = grind (arith, tests)

@@ -1,32 +1,33 @@
 -- Text laid into a buffer piece by piece: what is laid after a piece goes on from the piece's end.
-use mathlib.Core.Path.{◌≡◌, refl, sym, ◌∙◌}
+use mathlib.Core.Path.{◌≡◌, refl, ◌∙◌}
 use mathlib.Core.List.{List, [], ◌∷◌, ◌++◌, append-nil, append_assoc}
-use Prim.Native.Nat.{ℕ, zero, suc, ◌+◌, ◌-◌, ◌*◌, ◌/◌, ◌%◌, ◌≤◌, ◌<◌, zero-le, suc-le-suc}
+use Prim.Native.Nat.{ℕ, suc, ◌+◌, ◌*◌, ◌/◌, ◌%◌, ◌≤◌, ◌<◌}
 use native.Mathlib.Nat.{zero-add, add-zero, add-suc, suc-add}
 use native.Mathlib.Numerals.{add-one}
 use native.Mathlib.Omega.{arith}
 use lib.ListN.{length, get_or, set, take, drop, length-append, drop_of_length-le}
 use lib.Seq.{sets, sets-eq, length-sets, take_at, drop-cons, length-take-le}
-use lib.Dec.{ltb}
+use Rattle.std.proofs.Common.{take-append-drop, ◌^◌}
+use Rattle.std.proofs.lemmas.Slice.{take-put_mid, drop-put_mid}
+use borrow.Rule.Slice.PartMut.{put_mid}
+use Rattle.std.proofs.lemmas.Fmt.{decimal_from_appends}
+use Rattle.std.specs.Fmt.{decimal as library_decimal}
 use borrow.Author.Tests.{lt-ltb, le-ltb}
-use Rattle.numbers.proofs.Choices.{choose_either}
-use Rattle.console.specs.declared.Answer.{Answer}
-use Rattle.console.specs.declared.Answer.TheVariants.{Done, Refused, Nothing, Neither}
-use Rattle.console.specs.Texts.{decimal, numbered, okay, no, line, unread, newline, answer_text, Counted, byte_text, bytes_text, memory_text}
+use Rattle.console.specs.Texts.{decimal, numbered, byte_text, bytes_text, memory_text}
 
--- one byte more is laid
-pub sets_next : (out text : List ℕ) (at i : ℕ) → i < length text
-    → sets out (at + i) (drop i text) ≡ sets (set out (at + i) (get_or text i 0)) (at + (i + 1)) (drop (i + 1) text)
-sets_next out text at i inside = rw (drop-cons text i 0 inside, add-one, add-suc)
+-- text that was copied to its place is laid there
+pub copied : (out text : List ℕ) (at : ℕ) → at + length text ≤ length out → put_mid at (length text) out text ≡ sets out at text
+copied out text at room =
+    let n = at + length text in
+    let whole = put_mid at (length text) out text in
+    let front = take-put_mid at (length text) out text n refl (omega arith) in
+    let back = drop-put_mid at (length text) out text n (omega arith) (omega arith) refl in
+    cc (take-append-drop n whole, front, back, sets-eq text out at room)
 
 -- two pieces, one after the other
 pub sets_append : (out : List ℕ) (at : ℕ) (a b : List ℕ) → sets out at (a ++ b) ≡ sets (sets out at a) (at + length a) b
 sets_append out at [] b = rw (add-zero)
 sets_append out at (x ∷ a) b = sets_append (set out at x) (suc at) a b ∙ rw (suc-add, add-suc)
-
--- and one byte after a piece
-pub sets_last : (out : List ℕ) (at : ℕ) (a : List ℕ) (x : ℕ) → sets out at (a ++ (x ∷ [])) ≡ set (sets out at a) (at + length a) x
-sets_last out at a x = sets_append out at a (x ∷ [])
 
 -- what was laid stands after the bytes before it
 pub laid_after : (out text : List ℕ) (at : ℕ) → at + length text ≤ length out → take (at + length text) (sets out at text) ≡ take at out ++ text
@@ -40,29 +41,17 @@ laid_alone before text count laid room =
 
 -- ---- a number in decimal
 
-pub decimal_none : (places n : ℕ) → places ≡ 0 → decimal places n ≡ []
+decimal_one : (places n : ℕ) → n < 10 → decimal (suc places) n ≡ (48 + n) ∷ []
 unfolding decimal
-decimal_none places n none = rw none
+decimal_one places n small = rw (lt-ltb n 10 small)
 
-pub decimal_one : (places n : ℕ) → (places ≡ 0 → ⊥) → n < 10 → decimal places n ≡ (48 + n) ∷ []
+decimal_more : (places n : ℕ) → 10 ≤ n → decimal (suc places) n ≡ decimal places (n / 10) ++ ((48 + n % 10) ∷ [])
 unfolding decimal
-decimal_one zero n some small = absurd (some refl)
-decimal_one (suc places) n some small = rw (lt-ltb n 10 small)
+decimal_more places n large = rw (le-ltb n 10 large)
 
-one_less : (k : ℕ) → suc k - 1 ≡ k
-one_less k = omega arith
-
-pub decimal_more : (places n : ℕ) → (places ≡ 0 → ⊥) → 10 ≤ n → decimal places n ≡ decimal (places - 1) (n / 10) ++ ((48 + n % 10) ∷ [])
-unfolding decimal
-decimal_more zero n some large = absurd (some refl)
-decimal_more (suc places) n some large = rw (le-ltb n 10 large, one_less places)
-
-pub decimal_length : (places n : ℕ) → length (decimal places n) ≤ places
-unfolding decimal
-decimal_length zero n = zero-le
-decimal_length (suc places) n =
-    let less = decimal_length places (n / 10) in let whole = length-append (decimal places (n / 10)) ((48 + n % 10) ∷ []) in
-    choose_either (λ (s : List ℕ). length s ≤ suc places) (ltb n 10) (suc-le-suc zero-le) (omega arith)
+-- it is what the library writes, which has room in 20 digits
+pub decimal_written : (n : ℕ) → n < 2 ^ 64 → length (library_decimal n) ≤ 20 → decimal 20 n ≡ library_decimal n
+decimal_written n small few = decimal_from_appends decimal (record { one = decimal_one; more = decimal_more }) 20 n small few
 
 -- ---- a word, a number and what follows it
 
@@ -75,29 +64,7 @@ pub numbered_length : (before after : List ℕ) (n : ℕ) → length (numbered b
 unfolding numbered
 numbered_length before after n = simp length-append (omega arith)
 
--- with what was laid, so many bytes of a buffer that had room are counted
-pub counted : (before after : List ℕ) (n : ℕ) {r : ℕ} {φ : Type 0} (out : List ℕ) → (r ≡ length (numbered before n after)) × φ
-    → length before + 20 + length after ≤ length out → ((r ≡ length (numbered before n after)) × φ) × Counted r out
-counted before after n {r} out laid room =
-    let few = decimal_length 20 n in let whole = numbered_length before after n in let within : r ≤ length out = omega (arith, laid.0) in
-    (laid, (within, sym (length-take-le r out within)))
-
--- an answer is short
-pub answer_length : (answer : Answer) (at : ℕ) → length (answer_text answer at) ≤ 40
-unfolding answer_text
-answer_length (Done positions) at = omega (arith, numbered_length okay newline positions, decimal_length 20 positions)
-answer_length (Refused number) at = omega (arith, numbered_length no newline number, decimal_length 20 number)
-answer_length Nothing at = zero-le
-answer_length Neither at = omega (arith, numbered_length line unread at, decimal_length 20 at)
-
 -- ---- memory in hex
-
--- three bytes, one after the other
-pub three_sets : (out : List ℕ) (at a b c : ℕ) → set (set (set out at a) (at + 1) b) (at + 2) c ≡ sets out at (a ∷ b ∷ c ∷ [])
-three_sets out at a b c =
-    let one : at + 1 ≡ suc at = omega arith in
-    let two : at + 2 ≡ suc (suc at) = omega arith in
-    rw (one, two)
 
 -- text as long as the buffer is all of it
 pub sets_whole : (out text : List ℕ) → length out ≡ length text → sets out 0 text ≡ text

@@ -1,8 +1,6 @@
 -- What comes of a command, by what the coprocessor's calls promise.
-use Rattle.std.specs.Prelude.{List, ℕ}
-use Rattle.numbers.specs.Choose.{choose}
+use Rattle.std.specs.Prelude.{List, ℕ, Result, Ok, Err}
 use Rattle.parts.specs.declared.refusals.Refusal.{Refusal}
-use Rattle.parts.specs.Refusals.{is_accepted, refusal_number}
 use Rattle.coprocessor.specs.declared.Coprocessor.{Coprocessor}
 use Rattle.coprocessor.specs.Writes.{write_answer}
 use Rattle.coprocessor.specs.Runs.{run_answer, run_memory}
@@ -13,14 +11,15 @@ use Rattle.console.specs.declared.Answer.TheVariants.{Done, Refused, Nothing, Ne
 use Rattle.console.specs.declared.answers.Told.{Told}
 
 -- 01, the bench program: the positions done, or the refusal
-unfoldable pub outcome_of : Refusal → ℕ → Answer
-outcome_of refusal positions = choose (is_accepted refusal) (Done positions) (Refused (refusal_number refusal))
+unfoldable pub outcome_of : Result Unit Refusal → ℕ → Answer
+outcome_of (Ok _) positions = Done positions
+outcome_of (Err refusal) positions = Refused refusal
 
 -- 01, the bench program: 0 positions for writes
 unfoldable pub write_told : (offset length value : ℕ) → Coprocessor → Told
 write_told offset length value c =
     record {
-      answer = outcome_of (write_answer (record { offset = offset; length = length; value = value }) c).refusal 0;
+      answer = outcome_of (write_answer (record { offset = offset; length = length; value = value }) c).outcome 0;
       coprocessor = (write_answer (record { offset = offset; length = length; value = value }) c).coprocessor;
     }
 
@@ -28,7 +27,7 @@ write_told offset length value c =
 unfoldable pub run_told : ℕ → Coprocessor → List ℕ → Told
 run_told allowance c memory =
     record {
-      answer = outcome_of (run_answer c memory allowance).refusal (run_answer c memory allowance).done;
+      answer = outcome_of (run_answer c memory allowance).outcome (run_answer c memory allowance).done;
       coprocessor = (run_answer c memory allowance).coprocessor;
     }
 

@@ -1,8 +1,6 @@
 -- What a line asks for.
-use Rattle.std.specs.Prelude.{Bool, false, ◌||◌, List, [], ◌∷◌, ℕ, length, leb, eqb}
+use Rattle.std.specs.Prelude.{Bool, false, ◌||◌, List, [], ◌∷◌, ℕ, Option, Some, None, length, leb, eqb}
 use Rattle.numbers.specs.Choose.{choose}
-use Rattle.console.specs.declared.Number.{Number}
-use Rattle.console.specs.declared.Number.TheVariants.{Is, Not}
 use Rattle.console.specs.declared.Wide.TheVariants.{Low, Largest}
 use Rattle.console.specs.declared.Command.{Command}
 use Rattle.console.specs.declared.Command.TheVariants.{Write, Run, Blank, Neither}
@@ -16,16 +14,16 @@ is_letter upper lower (byte ∷ []) = eqb byte upper || eqb byte lower
 is_letter upper lower (byte ∷ next ∷ bytes) = false
 
 -- 01, the bench program: a write, if all three are numbers
-unfoldable pub write_of : Number → Number → Number → Command
-write_of (Is offset) (Is length) (Is value) = Write offset length value
-write_of (Is offset) (Is length) Not = Neither
-write_of (Is offset) Not value = Neither
-write_of Not length value = Neither
+unfoldable pub write_of : Option ℕ → Option ℕ → Option ℕ → Command
+write_of (Some offset) (Some length) (Some value) = Write offset length value
+write_of (Some offset) (Some length) None = Neither
+write_of (Some offset) None value = Neither
+write_of None length value = Neither
 
 -- 01, the bench program: a run, if its allowance is a number
-unfoldable pub run_of : Number → Command
-run_of (Is allowance) = Run allowance
-run_of Not = Neither
+unfoldable pub run_of : Option ℕ → Command
+run_of (Some allowance) = Run allowance
+run_of None = Neither
 
 -- 01, the bench program: `w offset length value` (hex, length decimal); extra words make it neither
 unfoldable pub write_from : List (List ℕ) → Command

@@ -1,8 +1,6 @@
 -- A word as a number.
-use Rattle.std.specs.Prelude.{Bool, true, ◌&&◌, List, [], ◌∷◌, ℕ, ◌+◌, ◌-◌, ◌*◌, ◌%◌, ◌^◌, min, leb, ltb}
+use Rattle.std.specs.Prelude.{Bool, true, ◌&&◌, List, [], ◌∷◌, ℕ, Option, Some, None, ◌+◌, ◌-◌, ◌*◌, ◌%◌, ◌^◌, min, leb, ltb}
 use Rattle.numbers.specs.Choose.{choose}
-use Rattle.console.specs.declared.Number.{Number}
-use Rattle.console.specs.declared.Number.TheVariants.{Is, Not}
 use Rattle.console.specs.declared.Wide.{Wide}
 use Rattle.console.specs.declared.Wide.TheVariants.{Low, Largest}
 
@@ -30,10 +28,10 @@ fitted Low n = n % 2 ^ 32
 fitted Largest n = min n (2 ^ 32 - 1)
 
 -- 01, the bench program: the number that these digits make after the number n, in 32 bits; leading zeros do no harm
-unfoldable pub number_from : Wide → (base n : ℕ) → List ℕ → Number
-number_from wide base n bytes = choose (digits base bytes) (Is (fitted wide (value base n bytes))) Not
+unfoldable pub number_from : Wide → (base n : ℕ) → List ℕ → Option ℕ
+number_from wide base n bytes = choose (digits base bytes) (Some (fitted wide (value base n bytes))) None
 
 -- 01, the bench program: the number that a word is; no word is none
-unfoldable pub word_number : Wide → (base : ℕ) → List ℕ → Number
-word_number wide base [] = Not
+unfoldable pub word_number : Wide → (base : ℕ) → List ℕ → Option ℕ
+word_number wide base [] = None
 word_number wide base (byte ∷ bytes) = number_from wide base 0 (byte ∷ bytes)

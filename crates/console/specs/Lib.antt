@@ -4,4 +4,3 @@ pub mod Commands
 pub mod Gathered
 pub mod Answers
 pub mod Texts
-pub mod Inner

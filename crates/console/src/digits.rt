@@ -1,51 +1,36 @@
 // A word as a number.
 ghost use Rattle.std.specs.Prelude.{◌≡◌, ◌≤◌};
-ghost use Rattle.console.specs.Digits.{digit_of, fitted, word_number};
+ghost use Rattle.console.specs.Digits.{fitted, word_number};
 
-use crate::{Number, Wide};
-
-// The largest number of 32 bits.
-const LARGEST: u64 = 4294967295;
-
-// A digit's value, and 16 for what is no digit.
-fn digit_of(byte: u8) -> u64
-    ensures { result ≡ digit_of byte }
-{
-    match byte {
-        b'0'..=b'9' => (byte - 48) as u64,
-        b'A'..=b'F' => (byte - 55) as u64,
-        b'a'..=b'f' => (byte - 87) as u64,
-        _ => 16,
-    }
-}
+use crate::Wide;
 
 // The number in 32 bits.
+#[tactic(auto, unfolding(crate::specs::Digits::fitted))]
 fn fit(n: u64, wide: Wide) -> u64
     ensures { result ≡ fitted wide n }
 {
     match wide {
-        Wide::Low => n & LARGEST,
-        Wide::Largest => if n < LARGEST { n } else { LARGEST },
+        Wide::Low => n & u64::from(u32::MAX),
+        Wide::Largest => n.min(u64::from(u32::MAX)),
     }
 }
 
 // The number that the word is, if it is one, in 32 bits.
-pub(crate) fn number(word: &[u8], base: u64, wide: Wide) -> Number
+#[tactic(auto, unfolding(crate::specs::Digits::word_number))]
+pub(crate) fn number(word: &[u8], base: u32, wide: Wide) -> Option<u32>
     requires { (1 ≤ base) × (base ≤ 16) }
     ensures { result ≡ word_number wide base word.now }
 {
-    if word.len() == 0 {
-        return Number::Not;
+    if word.is_empty() {
+        return None;
     }
-    let mut n: u64 = 0;
-    let mut i = 0;
-    while i < word.len() {
-        let digit = digit_of(word[i]);
+    let mut n = 0;
+    for &byte in word {
+        let digit = char::from(byte).to_digit(16)?;
         if base <= digit {
-            return Number::Not;
+            return None;
         }
-        n = fit(n * base + digit, wide);
-        i += 1;
+        n = fit(n * u64::from(base) + u64::from(digit), wide);
     }
-    Number::Is(n as u32)
+    Some(n as u32)
 }

@@ -8,7 +8,10 @@ pub mod gather;
 pub mod texts;
 mod words;
 
-// What a line asks for.
+use parts::refusals::Refusal;
+
+// What a line asks for: one of four kinds, which one match tells apart. A Result with an Option in it would say the same in two
+// layers.
 #[derive(Clone, Copy)]
 pub enum Command {
     Write {
@@ -27,19 +30,13 @@ pub enum Command {
 #[derive(Clone, Copy)]
 pub enum Answer {
     Done { positions: u32 },
-    Refused { number: u32 },
+    Refused(Refusal),
     Nothing,
     Neither,
 }
 
-// What a word is as a number.
-#[derive(Clone, Copy)]
-pub(crate) enum Number {
-    Is(u32),
-    Not,
-}
-
-// What stands for a number that is wider than 32 bits: its low bits, or the largest number.
+// What stands for a number that is wider than 32 bits: its low bits, or the largest number. The definition of a line's numbers goes
+// by these two kinds, so a closure in their place would need a clause that says which of them it is.
 #[derive(Clone, Copy)]
 pub(crate) enum Wide {
     Low,

@@ -23,7 +23,6 @@ use Rattle.mixes.specs.Mixes.{mixed}
 use Rattle.mixes.proofs.Mixed.{mixed_source}
 use Rattle.parts.specs.declared.shapes.Ink.{Ink}
 use Rattle.parts.specs.declared.shapes.Point.{Point}
-use Rattle.parts.specs.declared.shapes.Spot.{Spot}
 use Rattle.parts.specs.declared.shapes.Pointers.{Pointers}
 use Rattle.parts.specs.declared.drawing.Drawing.TheVariants.{Block}
 use Rattle.parts.specs.Reduced.{destination_reduced}
@@ -33,6 +32,7 @@ use Rattle.moves.specs.declared.Pen.{Pen}
 use Rattle.moves.specs.Decoded.{sign_of}
 use Rattle.moves.proofs.TurnLaws.{turned_in}
 use Rattle.moves.proofs.CircledLaws.{OnCircle, circled_on, circled_apart}
+use Rattle.places.specs.declared.MaskMode.TheVariants.{Disabled}
 use Rattle.places.specs.declared.Setup.{Setup}
 use Rattle.places.specs.Places.{is_within, column_of, place_x, on_map, is_move, is_first, is_last, on_boundary, nulled_by, is_nulled}
 use Rattle.places.proofs.Columns.{within_column, within_place}
@@ -49,7 +49,7 @@ use Rattle.copies.proofs.Positions.{Blocks, source_at, destination_at, At, on_po
 -- how a copy is set up
 pub record Copies (s : Setup) : Type 0 where
   pub edge : s.brush.edge ≡ negsuc 2047
-  pub mask : s.brush.mask.mode ≡ 0
+  pub mask : s.brush.mask.mode ≡ Disabled
   pub condition : s.brush.colours.compare.condition ≡ 4
   pub pattern : s.travel.pattern.used ≡ false
   pub derived : s.brush.flow.derived ≡ false
@@ -95,9 +95,7 @@ module _ (s : Setup) (k : Copies s) (memory : List ℕ) (pen : Pen) where
 
     whole : is_nulled s pen ≡ false
     unfolding is_nulled nulled_by is_first is_last on_boundary
-    whole =
-        let mode : ℕ = s.brush.flow.mode in
-        ap (nulled_by s pen.e) e ∙ none_left (eqb mode 1) (eqb mode 2) (eqb mode 3)
+    whole = ap (nulled_by s pen.e) e ∙ none_left s.brush.flow.mode
 
     -- on the map it is painted
     painted : on_map s.brush pen ≡ true → fate_of s memory pen ≡ Painted
@@ -130,11 +128,11 @@ module _ (s : Setup) (p : Pointers) (k : Copies s) (b : Blocks s p) (xbit ybit :
   place_at_lem : (pen : Pen) (column row : ℕ) → At s p column row pen → place_x s.brush pen ≡ (destination_at s p column row).x
   unfolding place_x
   place_at_lem pen column row at =
-      let x : pen.pointers.destination.x ≡ (destination_at s p column row).x = ap (λ (q : Spot). q.x) at.destination in
+      let x : pen.pointers.destination.x ≡ (destination_at s p column row).x = ap (λ (q : Point ℤ). q.x) at.destination in
       rw (k.edge, x) (placed _ (circled_on s.travel.course.x column p.destination.x b.across))
 
   row_at_lem : (pen : Pen) (column row : ℕ) → At s p column row pen → pen.pointers.destination.y ≡ (destination_at s p column row).y
-  row_at_lem pen column row at = ap (λ (q : Spot). q.y) at.destination
+  row_at_lem pen column row at = ap (λ (q : Point ℤ). q.y) at.destination
 
   -- two positions lie at one place only if they are one
   one_place : (column row column' row' : ℕ) → column < row_size → column' < row_size
@@ -188,7 +186,7 @@ module _ (s : Setup) (p : Pointers) (k : Copies s) (b : Blocks s p) (xbit ybit :
           let on : on_map s.brush u.pen ≡ true = and_both _ _ (ap (is_within to.width) place ∙ across) (ap (is_within to.height) row_there ∙ lower) in
           let inside = b.inside in
           let taken : source_pixel s.travel u.memory u.pen ≡ wanted =
-          ap (λ (q : Point). pixel_at u.memory from q.x q.y) at.source
+          ap (λ (q : Point ℕ). pixel_at u.memory from q.x q.y) at.source
           ∙ pixels_after s from k.apart number t (source_at s p column row).x (source_at s p column row).y
           (turned_in from.width s.travel.course.x column p.source.x (inside_x from p.source inside))
           (turned_in from.height s.travel.course.y row p.source.y (inside_y from p.source inside)) in
@@ -255,7 +253,7 @@ module _ (s : Setup) (p : Pointers) (k : Copies s) (b : Blocks s p) (xbit ybit :
           let found : mixed_pixel s u.memory u.pen
           ≡ pixel_at u.memory to (column_of (place_x s.brush u.pen)) (column_of u.pen.pointers.destination.y) =
           copied_pixel s k u.memory u.pen
-          ∙ ap (λ (q : Point). pixel_at u.memory from q.x q.y) at.source
+          ∙ ap (λ (q : Point ℕ). pixel_at u.memory from q.x q.y) at.source
           ∙ rw same (agrees (m % row_size) (m / row_size) digits.0 digits.1)
           ∙ sym (ap₂ (λ (x y : ℤ). pixel_at u.memory to (column_of x) (column_of y)) place row_there) in
           ap (λ (w : Run). w.memory) (on_position s p b u (m % row_size) (m / row_size) at)

@@ -3,6 +3,7 @@ use mathlib.Core.Path.{◌≡◌, sym, ap, ap₂, ◌∙◌}
 use mathlib.Core.Bool.{true, false}
 use mathlib.Core.List.{List}
 use Prim.Native.Nat.{ℕ, zero, suc, ◌+◌, ◌*◌, ◌≤◌, ◌<◌}
+use Rattle.std.proofs.Common.{ℤ}
 use native.Mathlib.Nat.{zero-mul}
 use native.Mathlib.Numerals.{add-one}
 use native.Mathlib.Omega.{arith}
@@ -10,7 +11,6 @@ use Rattle.numbers.specs.Choose.{choose}
 use Rattle.numbers.proofs.Choices.{choose_true, choose_false}
 use Rattle.pixels.specs.declared.Map.{Map}
 use Rattle.parts.specs.declared.shapes.Point.{Point}
-use Rattle.parts.specs.declared.shapes.Spot.{Spot}
 use Rattle.parts.specs.declared.shapes.Pointers.{Pointers}
 use Rattle.parts.specs.declared.drawing.Drawing.TheVariants.{Block}
 use Rattle.parts.specs.Drawings.{unfinished, with_inside}
@@ -38,14 +38,14 @@ pub record Blocks (s : Setup) (p : Pointers) : Type 0 where
   pub down : OnCircle p.destination.y
 
 -- the source pixel and the destination of the position at this column and row
-abbrev pub source_at : Setup → Pointers → ℕ → ℕ → Point
+abbrev pub source_at : Setup → Pointers → ℕ → ℕ → Point ℕ
 source_at s p column row =
     record {
       x = turned_by s.travel.course.x column s.travel.source.map.width p.source.x;
       y = turned_by s.travel.course.y row s.travel.source.map.height p.source.y;
     }
 
-abbrev pub destination_at : Setup → Pointers → ℕ → ℕ → Spot
+abbrev pub destination_at : Setup → Pointers → ℕ → ℕ → Point ℤ
 destination_at s p column row =
     record {
       x = circled_by s.travel.course.x column p.destination.x;
@@ -95,11 +95,11 @@ module _ (s : Setup) (p : Pointers) (b : Blocks s p) where
         source =
             ap (λ (q : Pen). q.pointers.source) to
             ∙ choose_true _ _ b.used
-            ∙ ap (λ (q : Point). record { x = turned_by s.travel.course.x 1 map.width q.x; y = q.y }) at.source
+            ∙ ap (λ (q : Point ℕ). record { x = turned_by s.travel.course.x 1 map.width q.x; y = q.y }) at.source
             ∙ (λ i. record { x = turned_more map.width s.travel.course.x column p.source.x i; y = (source_at s p column row).y });
         destination =
             ap (λ (q : Pen). q.pointers.destination) to
-            ∙ ap (λ (q : Spot). record { x = circled_by s.travel.course.x 1 q.x; y = q.y }) at.destination
+            ∙ ap (λ (q : Point ℤ). record { x = circled_by s.travel.course.x 1 q.x; y = q.y }) at.destination
             ∙ (λ i. record { x = circled_more s.travel.course.x p.destination.x b.across column i; y = (destination_at s p column row).y });
       }
 
@@ -113,7 +113,7 @@ module _ (s : Setup) (p : Pointers) (b : Blocks s p) where
         source =
             ap (λ (q : Pen). q.pointers.source) to
             ∙ choose_true _ _ b.used
-            ∙ ap (λ (q : Point). row_point s.travel map q) at.source
+            ∙ ap (λ (q : Point ℕ). row_point s.travel map q) at.source
             ∙ (λ i. record {
               x =
                   (turned_return map.width s.travel.course.x last p.source.x within
@@ -122,7 +122,7 @@ module _ (s : Setup) (p : Pointers) (b : Blocks s p) where
             });
         destination =
             ap (λ (q : Pen). q.pointers.destination) to
-            ∙ ap (λ (q : Spot). row_spot s.travel q) at.destination
+            ∙ ap (λ (q : Point ℤ). row_spot s.travel q) at.destination
             ∙ (λ i. record {
               x =
                   (circled_return s.travel.course.x p.destination.x b.across last

@@ -16,7 +16,6 @@ use Rattle.pixels.specs.Maps.{bits_of, place_of}
 use Rattle.pixels.specs.Pixels.{pixel_at}
 use Rattle.pixels.proofs.Bytes.{bytes_same}
 use Rattle.parts.specs.declared.shapes.Point.{Point}
-use Rattle.parts.specs.declared.shapes.Spot.{Spot}
 use Rattle.parts.specs.Reduced.{destination_reduced}
 use Rattle.parts.proofs.ReducedLaws.{destination_circle_fixed}
 use Rattle.rules.specs.Operations.{octant_of}
@@ -32,10 +31,10 @@ use Rattle.copies.proofs.Copied.{columns_few, rows_few, block_copied, block_unch
 
 module _ (a b : Map) (c : Coprocessor) (t : Transfer a b c) where
   columns : c.registers.figure.dimensions.x ≡ a.width
-  columns = ap (λ (p : Point). p.x) t.dimensions
+  columns = ap (λ (p : Point ℕ). p.x) t.dimensions
 
   rows : c.registers.figure.dimensions.y ≡ a.height
-  rows = ap (λ (p : Point). p.y) t.dimensions
+  rows = ap (λ (p : Point ℕ). p.y) t.dimensions
 
   -- from a corner to the right or down, so many steps lead to the column or row of that number
   column_in_lem : (bit k last first width : ℕ) → bit ≡ 0 → first ≡ 0 → last ≡ width → k ≤ width → turned_by (sign_of bit) k last first ≡ k
@@ -56,25 +55,25 @@ module _ (a b : Map) (c : Coprocessor) (t : Transfer a b c) where
     unfolding from_place
     from_x =
         column_in_lem (octant / 4 % 2) x (from_map c).width c.registers.pointers.source.x a.width
-        t.right (ap (λ (p : Point). p.x) t.first) (ap (λ (m : Map). m.width) t.from) across
+        t.right (ap (λ (p : Point ℕ). p.x) t.first) (ap (λ (m : Map). m.width) t.from) across
 
     from_y : (from_place c x y).y ≡ y
     unfolding from_place
     from_y =
         column_in_lem (octant / 2 % 2) y (from_map c).height c.registers.pointers.source.y a.height
-        t.down (ap (λ (p : Point). p.y) t.first) (ap (λ (m : Map). m.height) t.from) down
+        t.down (ap (λ (p : Point ℕ). p.y) t.first) (ap (λ (m : Map). m.height) t.from) down
 
     to_x : (to_place c x y).x ≡ pos x
     unfolding to_place
     to_x =
         place_on (octant / 4 % 2) x c.registers.pointers.destination.x
-        t.right (ap (λ (p : Spot). p.x) t.corner) (omega (arith, columns, columns_few c t.copy))
+        t.right (ap (λ (p : Point ℤ). p.x) t.corner) (omega (arith, columns, columns_few c t.copy))
 
     to_y : (to_place c x y).y ≡ pos y
     unfolding to_place
     to_y =
         place_on (octant / 2 % 2) y c.registers.pointers.destination.y
-        t.down (ap (λ (p : Spot). p.y) t.corner) (omega (arith, rows, rows_few c t.copy))
+        t.down (ap (λ (p : Point ℤ). p.y) t.corner) (omega (arith, rows, rows_few c t.copy))
 
     -- 02, 101: a transfer leaves each pixel of the one map in the other
     pub transferred : (memory : List ℕ) → length memory ≡ c.size → pixel_at (run_memory c memory (whole_of c)) b x y ≡ pixel_at memory a x y

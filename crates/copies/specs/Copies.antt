@@ -1,9 +1,8 @@
 -- A block copy: what its registers are, and where its positions lie.
-use Rattle.std.specs.Prelude.{ℕ, ◌-◌, ◌/◌, ◌%◌, ◌^◌, ◌≡◌, true, false, pos}
+use Rattle.std.specs.Prelude.{ℤ, ℕ, ◌-◌, ◌/◌, ◌%◌, ◌^◌, ◌≡◌, true, false, pos}
 use Rattle.pixels.specs.declared.Map.{Map}
 use Rattle.pixels.specs.Maps.{bits_of, Apart}
 use Rattle.parts.specs.declared.shapes.Point.{Point}
-use Rattle.parts.specs.declared.shapes.Spot.{Spot}
 use Rattle.parts.specs.declared.drawing.Drawing.TheVariants.{Block}
 use Rattle.rules.specs.Operations.{foreground_source, function_of, source_field, destination_field, pattern_field, mask_mode, octant_of}
 use Rattle.rules.specs.Maps.{map_at}
@@ -34,7 +33,7 @@ pub record Copy (c : Coprocessor) : Type 0 where
   pub apart : Apart (from_map c) (to_map c)
 
 -- 01, The functions, PxBlt; Maps and pointers: the source pixel of the position at this column and row of the block, by the octant's signs, wrapping at the map's edges
-unfoldable pub from_place : Coprocessor → ℕ → ℕ → Point
+unfoldable pub from_place : Coprocessor → ℕ → ℕ → Point ℕ
 from_place c column row =
     record {
       x = turned_by (sign_of (octant_of c.registers.figure.operations / 4 % 2)) column (from_map c).width c.registers.pointers.source.x;
@@ -42,7 +41,7 @@ from_place c column row =
     }
 
 -- 01, The functions, PxBlt; Maps and pointers: and its destination, on the pointers' circle
-unfoldable pub to_place : Coprocessor → ℕ → ℕ → Spot
+unfoldable pub to_place : Coprocessor → ℕ → ℕ → Point ℤ
 to_place c column row =
     record {
       x = circled_by (sign_of (octant_of c.registers.figure.operations / 4 % 2)) column c.registers.pointers.destination.x;

@@ -1,4 +1,5 @@
 -- A valid record with a drawing in hand is safe: the start rules hold of it, so used maps end within the memory and used pointers lie in them.
+use Rattle.std.proofs.Common.{Ok}
 use mathlib.Core.Path.{◌≡◌, refl}
 use mathlib.Core.Bool.{true, not, ◌&&◌}
 use mathlib.Core.List.{List}
@@ -10,7 +11,6 @@ use Rattle.numbers.proofs.Choices.{asked, and_left, and_right}
 use Rattle.pixels.proofs.Maps.{bits_le}
 use Rattle.mixes.proofs.Depths.{depth_cut}
 use Rattle.parts.specs.Drawings.{unfinished}
-use Rattle.parts.specs.declared.refusals.Refusal.TheVariants.{Accepted}
 use Rattle.parts.specs.Refusals.{is_accepted}
 use Rattle.parts.proofs.RefusalLaws.{passed}
 use Rattle.rules.specs.Operations.{is_fill, source_is_colour, uses_source, uses_pattern, uses_mask}
@@ -19,6 +19,7 @@ use Rattle.rules.specs.Going.{counters_hold, pointers_hold}
 use Rattle.rules.proofs.RefusalLaws.{accepted_holds}
 use Rattle.moves.specs.Decoded.{travel_of}
 use Rattle.places.specs.Decoded.{flow_of, brush_of}
+use Rattle.places.proofs.ModeLaws.{enabled_by}
 use Rattle.position.specs.Inner.{Safe}
 use Rattle.coprocessor.specs.declared.Coprocessor.{Coprocessor}
 use Rattle.coprocessor.specs.Fresh.{size_holds}
@@ -50,7 +51,7 @@ valid_safe c v going =
     let operations = c.registers.figure.operations in
     record {
       destination = search (ends, and_left);
-      mask = λ used. asked (uses_mask operations) _ (search (ends, and_right)) (eq-eqb _ 2 used);
+      mask = λ used. asked (uses_mask operations) _ (search (ends, and_right)) (enabled_by _ used);
       source = λ used. asked (uses_source operations) _ (search (ends, and_left, and_right)) used;
       pattern = λ used. asked (uses_pattern operations) _ (search (ends, and_left, and_right)) used;
       used = λ read. read;
@@ -71,7 +72,7 @@ run_allowed c memory e =
     (eqb-true _ _ (not-false _ size.0), not-false _ valid.0)
 
 -- and the other way
-pub run_accepted : (c : Coprocessor) (memory : List ℕ) → length memory ≡ c.size → valid_of c ≡ true → run_refusal c memory ≡ Accepted
+pub run_accepted : (c : Coprocessor) (memory : List ℕ) → length memory ≡ c.size → valid_of c ≡ true → run_refusal c memory ≡ Ok tt
 unfolding run_refusal
 run_accepted c memory size v = rw (eq-eqb _ _ size, v)
 

@@ -1,8 +1,8 @@
 -- A fresh state.
-use Rattle.std.specs.Prelude.{ℕ, Bool, false, ◌&&◌, [], ◌∷◌, leb}
+use Rattle.std.specs.Prelude.{ℕ, Bool, false, ◌&&◌, [], ◌∷◌, leb, Ok, Err}
 use Rattle.numbers.specs.Choose.{choose}
 use Rattle.parts.specs.declared.drawing.Drawing.TheVariants.{Nothing}
-use Rattle.parts.specs.declared.refusals.Refusal.TheVariants.{Accepted, Size}
+use Rattle.parts.specs.declared.refusals.Refusal.TheVariants.{Size}
 use Rattle.parts.specs.Fresh.{fresh_registers}
 use Rattle.rules.specs.Maps.{fresh_map}
 use Rattle.coprocessor.specs.declared.Coprocessor.{Coprocessor}
@@ -25,5 +25,5 @@ fresh_of size =
 -- 01, Numbers a call answers with: a refused fresh state is a fresh one of size 1
 unfoldable pub fresh_answer : ℕ → Written
 fresh_answer size =
-    choose (size_holds size) (record { refusal = Accepted; coprocessor = fresh_of size })
-    (record { refusal = Size; coprocessor = fresh_of 1 })
+    choose (size_holds size) (record { outcome = Ok tt; coprocessor = fresh_of size })
+    (record { outcome = Err Size; coprocessor = fresh_of 1 })

@@ -1,8 +1,8 @@
 -- The state image: the record as 115 bytes, and the record that 115 bytes are.
-use Rattle.std.specs.Prelude.{ℕ, Bool, not, ◌&&◌, ◌||◌, List, length, leb, eqb}
+use Rattle.std.specs.Prelude.{ℕ, Bool, not, ◌&&◌, ◌||◌, List, length, leb, eqb, Result, Ok, Err}
 use Rattle.numbers.specs.Choose.{choose}
 use Rattle.parts.specs.declared.refusals.Refusal.{Refusal}
-use Rattle.parts.specs.declared.refusals.Refusal.TheVariants.{Accepted, Image}
+use Rattle.parts.specs.declared.refusals.Refusal.TheVariants.{Image}
 use Rattle.parts.specs.declared.shapes.Figure.{Figure}
 use Rattle.parts.specs.declared.drawing.Drawing.TheVariants.{Line, Codes, Block}
 use Rattle.parts.specs.Refusals.{is_accepted}
@@ -78,8 +78,8 @@ unfoldable pub saves : Coprocessor → List ℕ → Bool
 saves c b = eqb (length b) image_length && valid_of c
 
 -- 01, refusal 10
-unfoldable pub save_refusal : Coprocessor → List ℕ → Refusal
-save_refusal c b = choose (saves c b) Accepted Image
+unfoldable pub save_refusal : Coprocessor → List ℕ → Result Unit Refusal
+save_refusal c b = choose (saves c b) (Ok tt) (Err Image)
 
 -- 01, Numbers a call answers with: a refused save keeps the buffer
 unfoldable pub saved : Coprocessor → List ℕ → List ℕ
@@ -88,4 +88,4 @@ saved c b = choose (saves c b) (image_of c) b
 -- 01, Numbers a call answers with: a refused load keeps the old state
 unfoldable pub load_answer : Coprocessor → List ℕ → Written
 load_answer c b =
-    choose (loads b) (record { refusal = Accepted; coprocessor = loaded b }) (record { refusal = Image; coprocessor = c })
+    choose (loads b) (record { outcome = Ok tt; coprocessor = loaded b }) (record { outcome = Err Image; coprocessor = c })

@@ -1,10 +1,10 @@
 -- How the code asks it: what functions inside promise each other, proved to be the same as the rules; nothing here has to be believed.
-use Rattle.std.specs.Prelude.{ℕ, Bool, not, ◌&&◌, List, eqb, length}
+use Rattle.std.specs.Prelude.{ℕ, Bool, not, ◌&&◌, List, eqb, length, Result, Ok, Err}
 use Rattle.numbers.specs.Choose.{choose}
 use Rattle.numbers.specs.Bytes.{covers}
 use Rattle.numbers.specs.declared.bytes.Write.{Write}
 use Rattle.parts.specs.declared.refusals.Refusal.{Refusal}
-use Rattle.parts.specs.declared.refusals.Refusal.TheVariants.{Accepted, Place, Unfinished, Unlisted, Function, Image}
+use Rattle.parts.specs.declared.refusals.Refusal.TheVariants.{Place, Unfinished, Unlisted, Function, Image}
 use Rattle.parts.specs.Drawings.{unfinished}
 use Rattle.parts.specs.Registers.{placed, listed}
 use Rattle.rules.specs.Operations.{draws}
@@ -21,18 +21,18 @@ use Rattle.coprocessor.specs.Writes.{stored, started_refusal}
 use Rattle.coprocessor.specs.Images.{loaded, loads}
 
 -- the lowest of a write's refusals 1 to 8
-unfoldable pub lower_refusal : Write → Coprocessor → Refusal
+unfoldable pub lower_refusal : Write → Coprocessor → Result Unit Refusal
 lower_refusal w c =
-    choose (not (placed w.offset w.length)) Place
-    (choose (unfinished c.drawing) Unfinished
-    (choose (not (listed w.length w.offset)) Unlisted
-    (choose (covers w 0x7F && not (draws (stored w c).registers.figure.operations)) Function
+    choose (not (placed w.offset w.length)) (Err Place)
+    (choose (unfinished c.drawing) (Err Unfinished)
+    (choose (not (listed w.length w.offset)) (Err Unlisted)
+    (choose (covers w 0x7F && not (draws (stored w c).registers.figure.operations)) (Err Function)
     (started_refusal w (stored w c)))))
 
 -- a read's refusals 1 and 3, which no record is asked for
-unfoldable pub place_refusal : (offset length : ℕ) → Refusal
+unfoldable pub place_refusal : (offset length : ℕ) → Result Unit Refusal
 place_refusal offset length =
-    choose (not (placed offset length)) Place (choose (not (listed length offset)) Unlisted Accepted)
+    choose (not (placed offset length)) (Err Place) (choose (not (listed length offset)) (Err Unlisted) (Ok tt))
 
 -- bytes load where mark and version hold, bytes 9 to 14 are the counters of the drawing that they make, and the record is valid
 unfoldable pub loads_by : List ℕ → Bool
@@ -46,4 +46,4 @@ loads_by b =
 -- whether bytes load, and the record that they make; a fresh one where they are too few or too many
 unfoldable pub opened_of : List ℕ → Written
 opened_of b =
-    record { refusal = choose (loads b) Accepted Image; coprocessor = choose (eqb (length b) image_length) (loaded b) (fresh_of 1) }
+    record { outcome = choose (loads b) (Ok tt) (Err Image); coprocessor = choose (eqb (length b) image_length) (loaded b) (fresh_of 1) }

@@ -1,8 +1,8 @@
 -- A run: the drawing in hand goes on by an allowance of positions.
-use Rattle.std.specs.Prelude.{ℕ, ◌+◌, ◌*◌, not, List, length, eqb}
+use Rattle.std.specs.Prelude.{ℕ, ◌+◌, ◌*◌, not, List, length, eqb, Result, Ok, Err}
 use Rattle.numbers.specs.Choose.{choose}
 use Rattle.parts.specs.declared.refusals.Refusal.{Refusal}
-use Rattle.parts.specs.declared.refusals.Refusal.TheVariants.{Accepted, Size, Image}
+use Rattle.parts.specs.declared.refusals.Refusal.TheVariants.{Size, Image}
 use Rattle.parts.specs.Refusals.{is_accepted}
 use Rattle.parts.specs.Moved.{with_moved}
 use Rattle.rules.specs.Totals.{total_of}
@@ -50,14 +50,14 @@ abbrev pub position_at : Coprocessor → ℕ → ℕ → ℕ
 position_at c column row = row * (c.registers.figure.dimensions.x + 1) + column
 
 -- 01, Numbers a call answers with: 9 for another length than the state's, then 10
-unfoldable pub run_refusal : Coprocessor → List ℕ → Refusal
-run_refusal c memory = choose (not (eqb (length memory) c.size)) Size (choose (not (valid_of c)) Image Accepted)
+unfoldable pub run_refusal : Coprocessor → List ℕ → Result Unit Refusal
+run_refusal c memory = choose (not (eqb (length memory) c.size)) (Err Size) (choose (not (valid_of c)) (Err Image) (Ok tt))
 
 -- 01, Numbers a call answers with: a refused run does 0 positions
 unfoldable pub run_answer : Coprocessor → List ℕ → ℕ → Drawn
 run_answer c memory n =
     record {
-      refusal = run_refusal c memory;
+      outcome = run_refusal c memory;
       done = choose (is_accepted (run_refusal c memory)) (ran_of c memory n).done 0;
       coprocessor = choose (is_accepted (run_refusal c memory)) (with_pen c (ran_of c memory n).pen) c;
     }

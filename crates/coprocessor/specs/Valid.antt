@@ -1,5 +1,5 @@
 -- Whether a record is the one that its own image loads to: the image rules, on the record.
-use Rattle.std.specs.Prelude.{Bool, not, ◌&&◌, ◌||◌, List}
+use Rattle.std.specs.Prelude.{Bool, not, ◌&&◌, ◌||◌, List, Result}
 use Rattle.pixels.specs.declared.Map.{Map}
 use Rattle.parts.specs.declared.refusals.Refusal.{Refusal}
 use Rattle.parts.specs.Refusals.{is_accepted}
@@ -12,7 +12,7 @@ use Rattle.coprocessor.specs.declared.Coprocessor.{Coprocessor}
 use Rattle.coprocessor.specs.Fresh.{size_holds}
 
 -- 01, refusals 5 to 8, on the record's registers
-unfoldable pub start_refusal_of : Coprocessor → Refusal
+unfoldable pub start_refusal_of : Coprocessor → Result Unit Refusal
 start_refusal_of c = start_refusal c.size c.maps c.registers
 
 -- 01, State image: the reductions of all four maps

@@ -1,10 +1,10 @@
 -- What a register write leaves, and its answer.
-use Rattle.std.specs.Prelude.{ℕ, ◌%◌, Bool, not, ◌&&◌, ◌||◌, set}
+use Rattle.std.specs.Prelude.{ℕ, ◌%◌, Bool, not, ◌&&◌, ◌||◌, set, Result, Ok, Err}
 use Rattle.numbers.specs.Choose.{choose}
 use Rattle.numbers.specs.Bytes.{covers}
 use Rattle.numbers.specs.declared.bytes.Write.{Write}
 use Rattle.parts.specs.declared.refusals.Refusal.{Refusal}
-use Rattle.parts.specs.declared.refusals.Refusal.TheVariants.{Accepted, Place, Unfinished, Unlisted, Function, Image}
+use Rattle.parts.specs.declared.refusals.Refusal.TheVariants.{Place, Unfinished, Unlisted, Function, Image}
 use Rattle.parts.specs.Refusals.{is_accepted}
 use Rattle.parts.specs.Drawings.{unfinished}
 use Rattle.parts.specs.Registers.{placed, listed}
@@ -45,19 +45,19 @@ started length c =
     }
 
 -- 01, Numbers a call answers with: 5 to 8 are asked at a start only, of the registers after the write
-unfoldable pub started_refusal : Write → Coprocessor → Refusal
-started_refusal w c = choose (starts_by w c) (start_refusal_of c) Accepted
+unfoldable pub started_refusal : Write → Coprocessor → Result Unit Refusal
+started_refusal w c = choose (starts_by w c) (start_refusal_of c) (Ok tt)
 
 -- 01, Numbers a call answers with: the lowest of 1, 2, 3 and 4, of 5 to 8 at a start, and of 10
-unfoldable pub write_refusal : Write → Coprocessor → Refusal
+unfoldable pub write_refusal : Write → Coprocessor → Result Unit Refusal
 write_refusal w c =
-    choose (not (placed w.offset w.length)) Place
-    (choose (unfinished c.drawing) Unfinished
-    (choose (not (listed w.length w.offset)) Unlisted
-    (choose (covers w 0x7F && not (draws (stored w c).registers.figure.operations)) Function
+    choose (not (placed w.offset w.length)) (Err Place)
+    (choose (unfinished c.drawing) (Err Unfinished)
+    (choose (not (listed w.length w.offset)) (Err Unlisted)
+    (choose (covers w 0x7F && not (draws (stored w c).registers.figure.operations)) (Err Function)
     (choose (not (is_accepted (started_refusal w (stored w c)))) (started_refusal w (stored w c))
-    (choose (not (valid_of c)) Image
-    Accepted)))))
+    (choose (not (valid_of c)) (Err Image)
+    (Ok tt))))))
 
 -- 01, Registers: the record that an accepted write leaves, from the one with its registers stored
 unfoldable pub settled_by : Write → Coprocessor → Coprocessor
@@ -67,6 +67,6 @@ settled_by w c = choose (starts_by w c) (started w.length c) c
 unfoldable pub write_answer : Write → Coprocessor → Written
 write_answer w c =
     record {
-      refusal = write_refusal w c;
+      outcome = write_refusal w c;
       coprocessor = choose (is_accepted (write_refusal w c)) (settled_by w (stored w c)) c;
     }

@@ -11,6 +11,7 @@ use pixels::Map;
 const LARGEST: u32 = 1048576;
 
 // Whether a memory may have this size.
+#[tactic(auto, unfolding(crate::specs::Fresh::size_holds))]
 pub(crate) fn size_holds(size: u32) -> bool
     ensures { result ≡ size_holds size }
 {
@@ -18,6 +19,7 @@ pub(crate) fn size_holds(size: u32) -> bool
 }
 
 // All registers zero, idle and not stopped, over a memory of this size.
+#[tactic(auto, unfolding(crate::specs::Fresh::fresh_of))]
 pub(crate) fn zero(size: u32) -> Coprocessor
     ensures { result ≡ fresh_of size }
 {
@@ -37,17 +39,18 @@ pub(crate) fn zero(size: u32) -> Coprocessor
 
 impl Coprocessor {
     // A fresh state over a memory of this size; a refused one has a memory of one byte.
+    #[tactic(auto, unfolding(crate::specs::Fresh::fresh_answer))]
     pub fn fresh(size: u32) -> Written
         ensures { result ≡ fresh_answer size }
     {
         if size_holds(size) {
             Written {
-                refusal: Refusal::Accepted,
+                outcome: Ok(()),
                 coprocessor: zero(size),
             }
         } else {
             Written {
-                refusal: Refusal::Size,
+                outcome: Err(Refusal::Size),
                 coprocessor: zero(1),
             }
         }

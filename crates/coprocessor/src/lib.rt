@@ -9,6 +9,7 @@ use pixels::Map;
 mod drawing;
 mod fresh;
 mod images;
+pub mod known;
 mod loads;
 mod reads;
 mod starts;
@@ -24,25 +25,28 @@ pub struct Coprocessor {
     pub drawing: Drawing,
 }
 
-// What a fresh state, a write or a load answers: the refusal, if any, and the record.
+// What a fresh state, a write or a load answers: its outcome, and the record. The record is beside the outcome, since it is given
+// with a refusal too: a refused call hands it back (`write_refused`), and a refused fresh state has one byte (`fresh_answer`).
 #[derive(Clone, Copy)]
 pub struct Written {
-    pub refusal: Refusal,
+    pub outcome: Result<(), Refusal>,
     pub coprocessor: Coprocessor,
 }
 
-// What a read answers: the refusal, if any, the value, and the record as it was.
+// What a read answers: its outcome, the value, and the record as it was. The value is beside the outcome, since a refused read
+// gives 0 (`read_refused`).
 #[derive(Clone, Copy)]
 pub struct Found {
-    pub refusal: Refusal,
+    pub outcome: Result<(), Refusal>,
     pub value: u32,
     pub coprocessor: Coprocessor,
 }
 
-// What a run answers: the refusal, if any, the positions done, and the record.
+// What a run answers: its outcome, the positions done, and the record. The positions are beside the outcome, since a refused run
+// does 0 (`run_refused`).
 #[derive(Clone, Copy)]
 pub struct Drawn {
-    pub refusal: Refusal,
+    pub outcome: Result<(), Refusal>,
     pub done: u32,
     pub coprocessor: Coprocessor,
 }

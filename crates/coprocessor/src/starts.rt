@@ -16,6 +16,7 @@ const STEPS_LAST: u8 = 0x2F;
 
 impl Coprocessor {
     // Whether the write, already stored, starts a drawing.
+    #[tactic(auto, using(parts::proofs::TakeLaws::touched_one), unfolding(crate::specs::Writes::starts_by))]
     pub(crate) fn starts(self, w: Write) -> bool
         ensures { result ≡ starts_by w self }
     {
@@ -27,19 +28,16 @@ impl Coprocessor {
     }
 
     // The record as a drawing starts it: used pointers turned into their maps, the counters at zero, or a stop at a first code 00.
+    #[tactic(auto, unfolding(crate::specs::Writes::started))]
     pub(crate) fn start(self, length: u8) -> Coprocessor
         ensures { result ≡ started length self }
     {
-        let maps = self.maps;
         let registers = self.registers;
-        let figure = registers.figure;
-        let pointers = registers.pointers;
-        let turned = start_pointers(figure.operations, maps, pointers);
+        let turned = start_pointers(registers.figure.operations, self.maps, registers.pointers);
         Coprocessor {
-            size: self.size,
-            maps,
             registers: with_moved(registers.terms.e, turned, registers),
-            drawing: start_drawing(figure, length),
+            drawing: start_drawing(registers.figure, length),
+            ..self
         }
     }
 }

@@ -5,42 +5,39 @@ use crate::Coprocessor;
 use crate::fresh::size_holds;
 use parts::drawing::is_unfinished;
 use parts::reduced::{map_is_reduced, registers_are_reduced};
-use parts::refusals::{Refusal, accepts};
+use parts::refusals::Refusal;
 use pixels::Map;
 use rules::going::{counters_hold, pointers_hold};
 use rules::rules::start_refusal;
 
 // Whether all four maps are reduced.
+#[tactic(auto, unfolding(crate::specs::Valid::maps_reduced, rules::specs::Maps::map_at))]
 fn maps_are_reduced(maps: [Map; 4]) -> bool
     ensures { result ≡ maps_reduced maps }
 {
-    let mask = map_is_reduced(maps[0]);
-    let a = map_is_reduced(maps[1]);
-    let b = map_is_reduced(maps[2]);
-    let c = map_is_reduced(maps[3]);
-    mask & a & b & c
+    let [mask, a, b, c] = maps;
+    map_is_reduced(mask) & map_is_reduced(a) & map_is_reduced(b) & map_is_reduced(c)
 }
 
 impl Coprocessor {
     // Refusals 5 to 8 of the registers as they are.
-    pub(crate) fn start_refusal(self) -> Refusal
+    #[tactic(auto, unfolding(crate::specs::Valid::start_refusal_of))]
+    pub(crate) fn start_refusal(self) -> Result<(), Refusal>
         ensures { result ≡ start_refusal_of self }
     {
-        let maps = self.maps;
-        let registers = self.registers;
-        start_refusal(self.size, maps, registers)
+        start_refusal(self.size, self.maps, self.registers)
     }
 
     // Whether every reduction holds.
+    #[tactic(auto, unfolding(crate::specs::Valid::reduced_of))]
     fn is_reduced(self) -> bool
         ensures { result ≡ reduced_of self }
     {
-        let maps = self.maps;
-        let registers = self.registers;
-        maps_are_reduced(maps) & registers_are_reduced(registers)
+        maps_are_reduced(self.maps) & registers_are_reduced(self.registers)
     }
 
     // Whether the drawing in hand, if there is one, can go on.
+    #[tactic(auto, unfolding(crate::specs::Valid::goes_on))]
     fn goes_on(self) -> bool
         ensures { result ≡ goes_on self }
     {
@@ -49,14 +46,13 @@ impl Coprocessor {
             return true;
         }
         let figure = self.registers.figure;
-        let maps = self.maps;
-        let pointers = self.registers.pointers;
         counters_hold(figure, drawing)
-            & accepts(self.start_refusal())
-            & pointers_hold(figure.operations, maps, pointers)
+            & self.start_refusal().is_ok()
+            & pointers_hold(figure.operations, self.maps, self.registers.pointers)
     }
 
     // Whether the record is the one that its own image loads to.
+    #[tactic(auto, unfolding(crate::specs::Valid::valid_of))]
     pub(crate) fn is_valid(self) -> bool
         ensures { result ≡ valid_of self }
     {

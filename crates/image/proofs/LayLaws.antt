@@ -1,5 +1,5 @@
 -- Fields are laid one after another: to lay some and then others is to lay them all.
-use mathlib.Core.Path.{◌≡◌, refl, sym, ap, ◌∙◌}
+use mathlib.Core.Path.{◌≡◌, refl, sym}
 use mathlib.Core.List.{List, [], ◌∷◌, ◌++◌, append-nil, append_assoc}
 use Prim.Native.Nat.{ℕ, suc, ◌+◌}
 use native.Mathlib.Nat.{zero-add, add-zero}
@@ -7,9 +7,7 @@ use native.Mathlib.Omega.{arith}
 use lib.ListN.{length, length-append}
 use lib.Seq.{sets, sets-eq, drop-length}
 use Rattle.numbers.specs.Bytes.{le}
-use Rattle.numbers.proofs.ByteLaws.{length_le}
 use Rattle.pixels.specs.declared.Map.{Map}
-use Rattle.rules.specs.Maps.{map_at}
 use Rattle.parts.specs.declared.shapes.Registers.{Registers}
 use Rattle.parts.specs.declared.drawing.Drawing.{Drawing}
 use Rattle.parts.specs.Registers.{others}
@@ -21,7 +19,7 @@ use Rattle.image.specs.Inner.{term_bytes, mix_bytes, colour_bytes, point_bytes, 
 
 -- ---- a run of stores
 
-sets_append : (b : List ℕ) (i : ℕ) (xs ys : List ℕ) → sets b i (xs ++ ys) ≡ sets (sets b i xs) (i + length xs) ys
+pub sets_append : (b : List ℕ) (i : ℕ) (xs ys : List ℕ) → sets b i (xs ++ ys) ≡ sets (sets b i xs) (i + length xs) ys
 sets_append b i [] ys = rw add-zero
 sets_append b i (x ∷ xs) ys =
     let next : i + suc (length xs) ≡ suc i + length xs = omega arith in
@@ -38,35 +36,6 @@ laid_append : (fs gs : List Field) → laid (fs ++ gs) ≡ laid fs ++ laid gs
 unfolding laid
 laid_append [] gs = refl
 laid_append (f ∷ fs) gs = rw (laid_append fs gs, append_assoc)
-
--- one field, and then others
-lay_next : (b : List ℕ) (at n x : ℕ) (fs : List Field)
-    → sets b at (laid (record { bytes = n; value = x } ∷ fs)) ≡ sets (sets b at (le n x)) (at + n) (laid fs)
-unfolding laid
-lay_next b at n x fs =
-    sets_append b at (le n x) (laid fs) ∙ ap (λ (k : ℕ). sets (sets b at (le n x)) (at + k) (laid fs)) (length_le n x)
-
-lay_last : (b : List ℕ) (at n x : ℕ) → sets b at (laid (record { bytes = n; value = x } ∷ [])) ≡ sets b at (le n x)
-unfolding laid
-lay_last b at n x = rw append-nil
-
--- a map's fields
-pub lay_map : (b : List ℕ) (at : ℕ) (m : Map)
-    → sets (sets (sets (sets b at (le 4 m.base)) (at + 4) (le 2 m.width)) (at + 6) (le 2 m.height)) (at + 8) (le 1 m.format)
-    ≡ sets b at (laid (map_fields 0 m))
-unfolding map_fields
-lay_map b at m =
-    let third : at + 6 ≡ at + 4 + 2 = omega arith in
-    let last : at + 8 ≡ at + 4 + 2 + 2 = omega arith in
-    rw (third, last, lay_next, lay_next, lay_next, lay_last)
-
--- the four maps
-pub lay_maps : (b : List ℕ) (maps : List Map)
-    → sets (sets (sets (sets b 16 (laid (map_fields 0 (map_at maps 0)))) 25 (laid (map_fields 0 (map_at maps 1))))
-    34 (laid (map_fields 0 (map_at maps 2)))) 43 (laid (map_fields 0 (map_at maps 3)))
-    ≡ sets b 16 (laid (maps_fields maps))
-unfolding le laid map_fields maps_fields
-lay_maps b maps = refl
 
 -- fields of three kinds, as long as the buffer
 lay_three : (b : List ℕ) (fs gs hs : List Field) → length (laid fs) + length (laid gs) + length (laid hs) ≡ length b

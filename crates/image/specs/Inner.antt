@@ -1,10 +1,9 @@
 -- How the code asks it: what functions inside promise each other, proved to be the same as the rules; nothing here has to be believed.
-use Rattle.std.specs.Prelude.{ℕ, ◌^◌, Bool, ◌&&◌, List, [], ◌∷◌, ◌++◌, eqb}
+use Rattle.std.specs.Prelude.{ℤ, ℕ, ◌^◌, Bool, ◌&&◌, List, [], ◌∷◌, ◌++◌, eqb}
 use Rattle.numbers.specs.Bytes.{le}
 use Rattle.numbers.specs.Circles.{residue}
 use Rattle.parts.specs.declared.shapes.Terms.{Terms}
 use Rattle.parts.specs.declared.shapes.Point.{Point}
-use Rattle.parts.specs.declared.shapes.Spot.{Spot}
 use Rattle.parts.specs.declared.shapes.Colours.{Colours}
 use Rattle.parts.specs.declared.shapes.Registers.{Registers}
 use Rattle.image.specs.declared.counters.Counters.{Counters}
@@ -32,11 +31,11 @@ colour_bytes c =
     le 4 c.compare.value ++ le 4 c.planes ++ le 4 c.carries ++ le 4 c.foreground.colour ++ le 4 c.background.colour
 
 -- the bytes of a pair
-unfoldable pub point_bytes : Point → List ℕ
+unfoldable pub point_bytes : Point ℕ → List ℕ
 point_bytes p = le 2 p.x ++ le 2 p.y
 
 -- the bytes of the destination pointer
-unfoldable pub spot_bytes : Spot → List ℕ
+unfoldable pub spot_bytes : Point ℤ → List ℕ
 spot_bytes s = le 2 (residue (2 ^ 16) s.x) ++ le 2 (residue (2 ^ 16) s.y)
 
 -- the bytes of the registers 20 to 63 hex

@@ -1,12 +1,11 @@
 -- What the fields of an image mean, each read at its place.
-use Rattle.std.specs.Prelude.{ℕ, List, [], ◌∷◌}
+use Rattle.std.specs.Prelude.{ℤ, ℕ, List, [], ◌∷◌}
 use Rattle.std.specs.Int.{w16, w32}
 use Rattle.std.proofs.Common.{to_z}
 use Rattle.pixels.specs.declared.Map.{Map}
 use Rattle.parts.specs.declared.shapes.Terms.{Terms}
 use Rattle.parts.specs.declared.shapes.Ink.{Ink}
 use Rattle.parts.specs.declared.shapes.Point.{Point}
-use Rattle.parts.specs.declared.shapes.Spot.{Spot}
 use Rattle.parts.specs.declared.shapes.Colours.{Colours}
 use Rattle.parts.specs.declared.shapes.Figure.{Figure}
 use Rattle.parts.specs.declared.shapes.Pointers.{Pointers}
@@ -70,7 +69,7 @@ colours_from b =
     }
 
 -- 01, State image: two registers of a pair
-unfoldable pub point_from : (x y : Register) → List ℕ → Point
+unfoldable pub point_from : (x y : Register) → List ℕ → Point ℕ
 point_from x y b = record { x = value_from x b; y = value_from y b }
 
 -- 01, State image: pixel operations, steps, dimensions and mask origin
@@ -84,7 +83,7 @@ figure_from b =
     }
 
 -- 01, State image: destination X and Y, signed, of two bytes each
-unfoldable pub spot_from : List ℕ → Spot
+unfoldable pub spot_from : List ℕ → Point ℤ
 spot_from b = record { x = to_z w16 (value_from table.destination_x b); y = to_z w16 (value_from table.destination_y b) }
 
 -- 01, State image: source, pattern and destination pointers

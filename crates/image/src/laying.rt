@@ -1,56 +1,66 @@
 // The fields of an image, laid one after another.
 
-ghost use Rattle.std.specs.Prelude.{◌≡◌, ◌+◌, ◌≤◌, length};
+ghost use Rattle.std.specs.Prelude.{◌≡◌, ◌+◌, ◌≤◌, ◌++◌};
 ghost use Rattle.std.proofs.lemmas.List.Edits.{sets};
+ghost use Rattle.numbers.specs.Bytes.{le};
 ghost use Rattle.image.specs.Layout as defined;
 ghost use Rattle.image.specs.Fields.{laid, counter_fields, head_fields, map_fields, maps_fields, fields_of};
-ghost use Rattle.image.specs.Inner.{term_bytes, mix_bytes, colour_bytes, point_bytes, spot_bytes, low_bytes, high_bytes};
+ghost use Rattle.image.specs.Inner.{term_bytes, mix_bytes, colour_bytes, low_bytes, high_bytes};
 
 use crate::counters::{Counters, counters_of};
 use crate::layout;
-use crate::words::{point_word, spot_word};
+use crate::layout::BYTES;
+use crate::stored::Stored;
 use numbers::bytes::store;
-use numbers::circles::word;
 use parts::drawing::Drawing;
-use parts::shapes::{Colours, Point, Registers, Spot, Terms};
+use parts::shapes::{Colours, Point, Registers, Terms};
 use pixels::Map;
 
+// A number, in as many bytes as its field has.
+fn lay_number<T: Stored>(number: T, offset: usize, buffer: &mut [u8; BYTES])
+    requires { offset + T.BYTES ≤ defined.image_length }
+    ensures { buffer.new ≡ sets buffer.old offset (le T.BYTES (T.stored number)) }
+{
+    store(buffer, offset, T::BYTES, number.to_word());
+}
+
 // State, positions done, rows or codes done, codes.
-fn lay_counters(k: Counters, buffer: &mut [u8])
-    requires { length buffer.old ≡ defined.image_length }
+#[tactic(auto, unfolding(numbers::specs::Bytes::le, crate::specs::Fields::laid, crate::specs::Fields::counter_fields))]
+fn lay_counters(k: Counters, buffer: &mut [u8; BYTES])
     ensures { buffer.new ≡ sets buffer.old (defined.state).from (laid (counter_fields k)) }
 {
-    store(buffer, layout::STATE_AT, 1, k.state as u32);
-    store(buffer, layout::DONE_AT, 2, k.done as u32);
-    store(buffer, layout::PASSED_AT, 2, k.passed as u32);
-    store(buffer, layout::COUNT_AT, 1, k.count as u32);
+    lay_number(k.state, layout::STATE_AT, buffer);
+    lay_number(k.done, layout::DONE_AT, buffer);
+    lay_number(k.passed, layout::PASSED_AT, buffer);
+    lay_number(k.count, layout::COUNT_AT, buffer);
 }
 
 // Mark, version, size, the drawing's counters, map index.
-fn lay_head(size: u32, index: u8, k: Counters, buffer: &mut [u8])
-    requires { length buffer.old ≡ defined.image_length }
+#[tactic(auto, unfolding(numbers::specs::Bytes::le, crate::specs::Fields::laid, crate::specs::Fields::counter_fields, crate::specs::Fields::head_fields))]
+fn lay_head(size: u32, index: u8, k: Counters, buffer: &mut [u8; BYTES])
     ensures { buffer.new ≡ sets buffer.old 0 (laid (head_fields k size index)) }
 {
     store(buffer, layout::MARK_AT, 3, layout::MARK);
     store(buffer, layout::VERSION_AT, 2, layout::VERSION);
-    store(buffer, layout::SIZE_AT, 4, size);
+    lay_number(size, layout::SIZE_AT, buffer);
     lay_counters(k, buffer);
-    store(buffer, layout::INDEX_AT, 1, index as u32);
+    lay_number(index, layout::INDEX_AT, buffer);
 }
 
 // Base, width, height, format.
-fn lay_map(map: Map, offset: usize, buffer: &mut [u8])
-    requires { offset + 9 ≤ length buffer.old }
+#[tactic(auto, unfolding(numbers::specs::Bytes::le, crate::specs::Fields::laid, crate::specs::Fields::map_fields))]
+fn lay_map(map: Map, offset: usize, buffer: &mut [u8; BYTES])
+    requires { offset + 9 ≤ defined.image_length }
     ensures { buffer.new ≡ sets buffer.old offset (laid (map_fields 0 map)) }
 {
-    store(buffer, offset, 4, map.base);
-    store(buffer, offset + 4, 2, map.width as u32);
-    store(buffer, offset + 6, 2, map.height as u32);
-    store(buffer, offset + 8, 1, map.format as u32);
+    lay_number(map.base, offset, buffer);
+    lay_number(map.width, offset + 4, buffer);
+    lay_number(map.height, offset + 6, buffer);
+    lay_number(map.format, offset + 8, buffer);
 }
 
-fn lay_maps(maps: [Map; 4], buffer: &mut [u8])
-    requires { length buffer.old ≡ defined.image_length }
+#[tactic(auto, unfolding(numbers::specs::Bytes::le, crate::specs::Fields::laid, crate::specs::Fields::map_fields, crate::specs::Fields::maps_fields, rules::specs::Maps::map_at))]
+fn lay_maps(maps: [Map; 4], buffer: &mut [u8; BYTES])
     ensures { buffer.new ≡ sets buffer.old (defined.map_base 0).from (laid (maps_fields maps)) }
 {
     lay_map(maps[0], layout::MASK_MAP_AT, buffer);
@@ -60,107 +70,84 @@ fn lay_maps(maps: [Map; 4], buffer: &mut [u8])
 }
 
 // E, K1 and K2.
-fn lay_terms(terms: Terms, buffer: &mut [u8])
-    requires { length buffer.old ≡ defined.image_length }
+#[tactic(auto, unfolding(numbers::specs::Bytes::le, crate::specs::Inner::term_bytes))]
+fn lay_terms(terms: Terms, buffer: &mut [u8; BYTES])
     ensures { buffer.new ≡ sets buffer.old (defined.place_from 0x20) (term_bytes terms) }
 {
-    store(buffer, layout::E_AT, 4, word(terms.e));
-    store(buffer, layout::K1_AT, 4, word(terms.k1));
-    store(buffer, layout::K2_AT, 4, word(terms.k2));
+    lay_number(terms.e, layout::E_AT, buffer);
+    lay_number(terms.k1, layout::K1_AT, buffer);
+    lay_number(terms.k2, layout::K2_AT, buffer);
 }
 
 // The two mixes and the compare condition.
-fn lay_mixes(colours: Colours, buffer: &mut [u8])
-    requires { length buffer.old ≡ defined.image_length }
+#[tactic(auto, unfolding(numbers::specs::Bytes::le, crate::specs::Inner::mix_bytes))]
+fn lay_mixes(colours: Colours, buffer: &mut [u8; BYTES])
     ensures { buffer.new ≡ sets buffer.old (defined.place_from 0x48) (mix_bytes colours) }
 {
-    store(
-        buffer,
-        layout::FOREGROUND_MIX_AT,
-        1,
-        colours.foreground.mix as u32,
-    );
-    store(
-        buffer,
-        layout::BACKGROUND_MIX_AT,
-        1,
-        colours.background.mix as u32,
-    );
-    store(
-        buffer,
-        layout::CONDITION_AT,
-        1,
-        colours.compare.condition as u32,
-    );
+    lay_number(colours.foreground.mix, layout::FOREGROUND_MIX_AT, buffer);
+    lay_number(colours.background.mix, layout::BACKGROUND_MIX_AT, buffer);
+    lay_number(colours.compare.condition, layout::CONDITION_AT, buffer);
 }
 
 // The compare value, the masks and the colours.
-fn lay_colours(colours: Colours, buffer: &mut [u8])
-    requires { length buffer.old ≡ defined.image_length }
+#[tactic(auto, unfolding(numbers::specs::Bytes::le, crate::specs::Inner::colour_bytes))]
+fn lay_colours(colours: Colours, buffer: &mut [u8; BYTES])
     ensures { buffer.new ≡ sets buffer.old (defined.place_from 0x4C) (colour_bytes colours) }
 {
-    store(buffer, layout::VALUE_AT, 4, colours.compare.value);
-    store(buffer, layout::PLANES_AT, 4, colours.planes);
-    store(buffer, layout::CARRIES_AT, 4, colours.carries);
-    store(buffer, layout::FOREGROUND_AT, 4, colours.foreground.colour);
-    store(buffer, layout::BACKGROUND_AT, 4, colours.background.colour);
+    lay_number(colours.compare.value, layout::VALUE_AT, buffer);
+    lay_number(colours.planes, layout::PLANES_AT, buffer);
+    lay_number(colours.carries, layout::CARRIES_AT, buffer);
+    lay_number(colours.foreground.colour, layout::FOREGROUND_AT, buffer);
+    lay_number(colours.background.colour, layout::BACKGROUND_AT, buffer);
 }
 
-// A pair of two bytes each, as one word.
-fn lay_point(point: Point, offset: usize, buffer: &mut [u8])
-    requires { offset + 4 ≤ length buffer.old }
-    ensures { buffer.new ≡ sets buffer.old offset (point_bytes point) }
+// Two numbers, one after the other.
+#[tactic(auto, using(crate::proofs::LayLaws::sets_append, numbers::proofs::ByteLaws::length_le))]
+fn lay_point<T: Stored>(point: Point<T>, offset: usize, buffer: &mut [u8; BYTES])
+    requires { offset + (T.BYTES + T.BYTES) ≤ defined.image_length }
+    ensures { buffer.new ≡ sets buffer.old offset (le T.BYTES (T.stored point.x) ++ le T.BYTES (T.stored point.y)) }
 {
-    store(buffer, offset, 4, point_word(point));
-}
-
-// The destination pointer, as one word.
-fn lay_spot(spot: Spot, buffer: &mut [u8])
-    requires { length buffer.old ≡ defined.image_length }
-    ensures { buffer.new ≡ sets buffer.old (defined.place_from 0x78) (spot_bytes spot) }
-{
-    store(buffer, layout::DESTINATION_AT, 4, spot_word(spot));
+    lay_number(point.x, offset, buffer);
+    lay_number(point.y, offset + T::BYTES, buffer);
 }
 
 // Every register from 20 to 63 hex.
-fn lay_lower(registers: Registers, buffer: &mut [u8])
-    requires { length buffer.old ≡ defined.image_length }
+#[tactic(auto, unfolding(numbers::specs::Bytes::le, crate::specs::Inner::term_bytes, crate::specs::Inner::mix_bytes, crate::specs::Inner::colour_bytes, crate::specs::Inner::point_bytes, crate::specs::Inner::low_bytes))]
+fn lay_lower(registers: Registers, buffer: &mut [u8; BYTES])
     ensures { buffer.new ≡ sets buffer.old (defined.place_from 0x20) (low_bytes registers) }
 {
-    let terms = registers.terms;
-    let colours = registers.colours;
-    let dimensions = registers.figure.dimensions;
-    lay_terms(terms, buffer);
-    store(buffer, layout::STEPS_AT, 4, registers.figure.steps);
-    lay_mixes(colours, buffer);
-    lay_colours(colours, buffer);
-    lay_point(dimensions, layout::DIMENSIONS_AT, buffer);
+    lay_terms(registers.terms, buffer);
+    lay_number(registers.figure.steps, layout::STEPS_AT, buffer);
+    lay_mixes(registers.colours, buffer);
+    lay_colours(registers.colours, buffer);
+    lay_point(registers.figure.dimensions, layout::DIMENSIONS_AT, buffer);
 }
 
 // Every register from 6C to 7F hex.
-fn lay_upper(registers: Registers, buffer: &mut [u8])
-    requires { length buffer.old ≡ defined.image_length }
+#[tactic(auto, unfolding(numbers::specs::Bytes::le, crate::specs::Inner::point_bytes, crate::specs::Inner::spot_bytes, crate::specs::Inner::high_bytes))]
+fn lay_upper(registers: Registers, buffer: &mut [u8; BYTES])
     ensures { buffer.new ≡ sets buffer.old (defined.place_from 0x6C) (high_bytes registers) }
 {
-    let origin = registers.figure.origin;
-    let source = registers.pointers.source;
-    let pattern = registers.pointers.pattern;
-    let destination = registers.pointers.destination;
-    lay_point(origin, layout::ORIGIN_AT, buffer);
-    lay_point(source, layout::SOURCE_AT, buffer);
-    lay_point(pattern, layout::PATTERN_AT, buffer);
-    lay_spot(destination, buffer);
-    store(
+    lay_point(registers.figure.origin, layout::ORIGIN_AT, buffer);
+    lay_point(registers.pointers.source, layout::SOURCE_AT, buffer);
+    lay_point(registers.pointers.pattern, layout::PATTERN_AT, buffer);
+    lay_point(
+        registers.pointers.destination,
+        layout::DESTINATION_AT,
         buffer,
-        layout::OPERATIONS_AT,
-        4,
-        registers.figure.operations,
     );
+    lay_number(registers.figure.operations, layout::OPERATIONS_AT, buffer);
 }
 
 // Lays the whole image into a buffer of its length.
-pub fn lay(size: u32, maps: [Map; 4], registers: Registers, drawing: Drawing, buffer: &mut [u8])
-    requires { length buffer.old ≡ defined.image_length }
+#[tactic(auto, using(crate::proofs::LayLaws::lay_fields))]
+pub fn lay(
+    size: u32,
+    maps: [Map; 4],
+    registers: Registers,
+    drawing: Drawing,
+    buffer: &mut [u8; BYTES],
+)
     ensures { buffer.new ≡ laid (fields_of size maps registers drawing) }
 {
     lay_head(size, registers.index, counters_of(drawing), buffer);

@@ -5,4 +5,5 @@ pub mod counters;
 pub mod laying;
 pub mod layout;
 pub mod reading;
+mod stored;
 pub mod words;

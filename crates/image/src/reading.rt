@@ -1,65 +1,50 @@
 // The numbers that an image has at an offset, and each group of registers at its own.
 
-ghost use Rattle.std.specs.Prelude.{◌≡◌, ◌&&◌, ◌+◌, ◌≤◌, eqb, length};
+ghost use Rattle.std.specs.Prelude.{◌≡◌, ◌&&◌, ◌+◌, ◌≤◌, eqb};
 ghost use Rattle.image.specs.Layout as defined;
 ghost use Rattle.image.specs.Layout.{at, field_at};
 ghost use Rattle.image.specs.Read as read;
 
 use crate::counters::Counters;
 use crate::layout;
+use crate::layout::BYTES;
+use crate::stored::Stored;
 use numbers::bytes::fetch;
-use numbers::circles::{signed_half, signed_word};
-use parts::shapes::{Colours, Compare, Figure, Ink, Point, Pointers, Registers, Spot, Terms};
+use parts::shapes::{Colours, Compare, Figure, Ink, Point, Pointers, Registers, Terms};
 use pixels::Map;
 
-// The four bytes of the image from an offset on.
-fn word_at(buffer: &[u8], offset: usize) -> u32
-    requires { offset + 4 ≤ length buffer.now }
-    ensures { result ≡ at offset 4 buffer.now }
+// The number that the image has at an offset.
+#[tactic(auto, using(numbers::proofs::BytePartLaws::number_lt), unfolding(crate::specs::Layout::at))]
+fn number_at<T: Stored>(buffer: &[u8; BYTES], offset: usize) -> T
+    requires { offset + T.BYTES ≤ defined.image_length }
+    ensures { result ≡ T.read (at offset T.BYTES buffer.now) }
 {
-    fetch(buffer, offset, 4)
-}
-
-// Two bytes.
-fn half_at(buffer: &[u8], offset: usize) -> u16
-    requires { offset + 2 ≤ length buffer.now }
-    ensures { result ≡ at offset 2 buffer.now }
-{
-    fetch(buffer, offset, 2) as u16
-}
-
-// One byte.
-fn byte_at(buffer: &[u8], offset: usize) -> u8
-    requires { offset + 1 ≤ length buffer.now }
-    ensures { result ≡ at offset 1 buffer.now }
-{
-    fetch(buffer, offset, 1) as u8
+    T::from_word(fetch(buffer, offset, T::BYTES))
 }
 
 // The counters of the drawing in hand.
-pub fn counters_from(buffer: &[u8]) -> Counters
-    requires { length buffer.now ≡ defined.image_length }
+#[tactic(auto, unfolding(crate::specs::Read::counters_from))]
+pub fn counters_from(buffer: &[u8; BYTES]) -> Counters
     ensures { result ≡ read.counters_from buffer.now }
 {
     Counters {
-        state: byte_at(buffer, layout::STATE_AT),
-        done: half_at(buffer, layout::DONE_AT),
-        passed: half_at(buffer, layout::PASSED_AT),
-        count: byte_at(buffer, layout::COUNT_AT),
+        state: number_at(buffer, layout::STATE_AT),
+        done: number_at(buffer, layout::DONE_AT),
+        passed: number_at(buffer, layout::PASSED_AT),
+        count: number_at(buffer, layout::COUNT_AT),
     }
 }
 
 // The memory's size.
-pub fn size_from(buffer: &[u8]) -> u32
-    requires { length buffer.now ≡ defined.image_length }
+pub fn size_from(buffer: &[u8; BYTES]) -> u32
     ensures { result ≡ field_at defined.memory_size buffer.now }
 {
-    word_at(buffer, layout::SIZE_AT)
+    number_at(buffer, layout::SIZE_AT)
 }
 
 // A map's nine bytes.
-fn map_from(buffer: &[u8], offset: usize) -> Map
-    requires { offset + 9 ≤ length buffer.now }
+fn map_from(buffer: &[u8; BYTES], offset: usize) -> Map
+    requires { offset + 9 ≤ defined.image_length }
     ensures { result ≡ record {
       base = at offset 4 buffer.now;
       width = at (offset + 4) 2 buffer.now;
@@ -68,15 +53,15 @@ fn map_from(buffer: &[u8], offset: usize) -> Map
     } }
 {
     Map {
-        base: word_at(buffer, offset),
-        width: half_at(buffer, offset + 4),
-        height: half_at(buffer, offset + 6),
-        format: byte_at(buffer, offset + 8),
+        base: number_at(buffer, offset),
+        width: number_at(buffer, offset + 4),
+        height: number_at(buffer, offset + 6),
+        format: number_at(buffer, offset + 8),
     }
 }
 
-pub fn maps_from(buffer: &[u8]) -> [Map; 4]
-    requires { length buffer.now ≡ defined.image_length }
+#[tactic(auto, unfolding(crate::specs::Read::map_from, crate::specs::Read::maps_from))]
+pub fn maps_from(buffer: &[u8; BYTES]) -> [Map; 4]
     ensures { result ≡ read.maps_from buffer.now }
 {
     [
@@ -87,90 +72,83 @@ pub fn maps_from(buffer: &[u8]) -> [Map; 4]
     ]
 }
 
-fn terms_from(buffer: &[u8]) -> Terms
-    requires { length buffer.now ≡ defined.image_length }
+#[tactic(auto, unfolding(crate::specs::Read::terms_from))]
+fn terms_from(buffer: &[u8; BYTES]) -> Terms
     ensures { result ≡ read.terms_from buffer.now }
 {
     Terms {
-        e: signed_word(word_at(buffer, layout::E_AT)),
-        k1: signed_word(word_at(buffer, layout::K1_AT)),
-        k2: signed_word(word_at(buffer, layout::K2_AT)),
+        e: number_at(buffer, layout::E_AT),
+        k1: number_at(buffer, layout::K1_AT),
+        k2: number_at(buffer, layout::K2_AT),
     }
 }
 
-fn colours_from(buffer: &[u8]) -> Colours
-    requires { length buffer.now ≡ defined.image_length }
+#[tactic(auto, unfolding(crate::specs::Read::ink_from, crate::specs::Read::colours_from))]
+fn colours_from(buffer: &[u8; BYTES]) -> Colours
     ensures { result ≡ read.colours_from buffer.now }
 {
     Colours {
         foreground: Ink {
-            mix: byte_at(buffer, layout::FOREGROUND_MIX_AT),
-            colour: word_at(buffer, layout::FOREGROUND_AT),
+            mix: number_at(buffer, layout::FOREGROUND_MIX_AT),
+            colour: number_at(buffer, layout::FOREGROUND_AT),
         },
         background: Ink {
-            mix: byte_at(buffer, layout::BACKGROUND_MIX_AT),
-            colour: word_at(buffer, layout::BACKGROUND_AT),
+            mix: number_at(buffer, layout::BACKGROUND_MIX_AT),
+            colour: number_at(buffer, layout::BACKGROUND_AT),
         },
         compare: Compare {
-            condition: byte_at(buffer, layout::CONDITION_AT),
-            value: word_at(buffer, layout::VALUE_AT),
+            condition: number_at(buffer, layout::CONDITION_AT),
+            value: number_at(buffer, layout::VALUE_AT),
         },
-        planes: word_at(buffer, layout::PLANES_AT),
-        carries: word_at(buffer, layout::CARRIES_AT),
+        planes: number_at(buffer, layout::PLANES_AT),
+        carries: number_at(buffer, layout::CARRIES_AT),
     }
 }
 
-// A pair's four bytes.
-fn point_from(buffer: &[u8], offset: usize) -> Point
-    requires { offset + 4 ≤ length buffer.now }
-    ensures { result ≡ record { x = at offset 2 buffer.now; y = at (offset + 2) 2 buffer.now } }
+// Two numbers, one after the other.
+fn point_from<T: Stored>(buffer: &[u8; BYTES], offset: usize) -> Point<T>
+    requires { offset + (T.BYTES + T.BYTES) ≤ defined.image_length }
+    ensures { result ≡ record {
+      x = T.read (at offset T.BYTES buffer.now);
+      y = T.read (at (offset + T.BYTES) T.BYTES buffer.now);
+    } }
 {
     Point {
-        x: half_at(buffer, offset),
-        y: half_at(buffer, offset + 2),
+        x: number_at(buffer, offset),
+        y: number_at(buffer, offset + T::BYTES),
     }
 }
 
-fn figure_from(buffer: &[u8]) -> Figure
-    requires { length buffer.now ≡ defined.image_length }
+#[tactic(auto, unfolding(crate::specs::Read::point_from, crate::specs::Read::figure_from))]
+fn figure_from(buffer: &[u8; BYTES]) -> Figure
     ensures { result ≡ read.figure_from buffer.now }
 {
     Figure {
-        operations: word_at(buffer, layout::OPERATIONS_AT),
-        steps: word_at(buffer, layout::STEPS_AT),
+        operations: number_at(buffer, layout::OPERATIONS_AT),
+        steps: number_at(buffer, layout::STEPS_AT),
         dimensions: point_from(buffer, layout::DIMENSIONS_AT),
         origin: point_from(buffer, layout::ORIGIN_AT),
     }
 }
 
-fn spot_from(buffer: &[u8]) -> Spot
-    requires { length buffer.now ≡ defined.image_length }
-    ensures { result ≡ read.spot_from buffer.now }
-{
-    Spot {
-        x: signed_half(half_at(buffer, layout::DESTINATION_AT)),
-        y: signed_half(half_at(buffer, layout::DESTINATION_AT + 2)),
-    }
-}
-
-fn pointers_from(buffer: &[u8]) -> Pointers
-    requires { length buffer.now ≡ defined.image_length }
+#[tactic(auto, unfolding(crate::specs::Read::point_from, crate::specs::Read::spot_from, crate::specs::Read::pointers_from))]
+fn pointers_from(buffer: &[u8; BYTES]) -> Pointers
     ensures { result ≡ read.pointers_from buffer.now }
 {
     Pointers {
         source: point_from(buffer, layout::SOURCE_AT),
         pattern: point_from(buffer, layout::PATTERN_AT),
-        destination: spot_from(buffer),
+        destination: point_from(buffer, layout::DESTINATION_AT),
     }
 }
 
 // Every register but those of the maps.
-pub fn registers_from(buffer: &[u8]) -> Registers
-    requires { length buffer.now ≡ defined.image_length }
+#[tactic(auto, unfolding(crate::specs::Read::registers_from))]
+pub fn registers_from(buffer: &[u8; BYTES]) -> Registers
     ensures { result ≡ read.registers_from buffer.now }
 {
     Registers {
-        index: byte_at(buffer, layout::INDEX_AT),
+        index: number_at(buffer, layout::INDEX_AT),
         terms: terms_from(buffer),
         colours: colours_from(buffer),
         figure: figure_from(buffer),
@@ -179,8 +157,8 @@ pub fn registers_from(buffer: &[u8]) -> Registers
 }
 
 // Whether the image has the mark and the version.
-pub fn is_marked(buffer: &[u8]) -> bool
-    requires { length buffer.now ≡ defined.image_length }
+#[tactic(auto, unfolding(crate::specs::Layout::at))]
+pub fn is_marked(buffer: &[u8; BYTES]) -> bool
     ensures { result ≡ eqb (field_at defined.mark buffer.now) defined.the_mark && eqb (field_at defined.version buffer.now) defined.the_version }
 {
     (fetch(buffer, layout::MARK_AT, 3) == layout::MARK)

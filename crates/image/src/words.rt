@@ -3,28 +3,25 @@
 ghost use Rattle.std.specs.Prelude.{◌≡◌, ◌∷◌, [], ◌++◌};
 ghost use Rattle.numbers.specs.Bytes.{le};
 ghost use Rattle.image.specs.Bank.{bank_of};
-ghost use Rattle.image.specs.Inner.{mix_bytes, point_bytes, spot_bytes, word_bytes};
+ghost use Rattle.image.specs.Inner.{mix_bytes, word_bytes};
 
-use numbers::circles::{half_word, word};
-use parts::shapes::{Colours, Point, Registers, Spot};
+use crate::stored::Stored;
+use numbers::circles::word;
+use parts::shapes::{Colours, Point, Registers};
 use pixels::Map;
 use rules::maps::map_at;
 
-pub(crate) fn point_word(point: Point) -> u32
-    ensures { le 4 result ≡ point_bytes point }
+// Two numbers of two bytes.
+#[tactic(auto, unfolding(numbers::specs::Bytes::le))]
+fn point_word<T: Stored>(point: Point<T>) -> u32
+    requires { T.BYTES ≡ 2 }
+    ensures { le 4 result ≡ le 2 (T.stored point.x) ++ le 2 (T.stored point.y) }
 {
-    point.x as u32 + 65536 * point.y as u32
-}
-
-pub(crate) fn spot_word(spot: Spot) -> u32
-    ensures { le 4 result ≡ spot_bytes spot }
-{
-    let low = half_word(spot.x);
-    let high = half_word(spot.y);
-    low as u32 + 65536 * high as u32
+    point.x.to_word() + 65536 * point.y.to_word()
 }
 
 // Offset 10 hex: the map index in its third byte.
+#[tactic(auto, unfolding(numbers::specs::Bytes::le))]
 fn index_word(index: u8) -> u32
     ensures { le 4 result ≡ 0 ∷ 0 ∷ le 1 index ++ 0 ∷ [] }
 {
@@ -35,10 +32,14 @@ fn index_word(index: u8) -> u32
 fn size_word(map: Map) -> u32
     ensures { le 4 result ≡ le 2 map.width ++ le 2 map.height }
 {
-    map.width as u32 + 65536 * map.height as u32
+    point_word(Point {
+        x: map.width,
+        y: map.height,
+    })
 }
 
 // Offset 1C hex: a map's format.
+#[tactic(auto, unfolding(numbers::specs::Bytes::le))]
 fn format_word(map: Map) -> u32
     ensures { le 4 result ≡ le 1 map.format ++ 0 ∷ 0 ∷ 0 ∷ [] }
 {
@@ -46,6 +47,7 @@ fn format_word(map: Map) -> u32
 }
 
 // Offset 48 hex: the two mixes and the condition.
+#[tactic(auto, unfolding(numbers::specs::Bytes::le, crate::specs::Inner::mix_bytes))]
 fn mixes_word(colours: Colours) -> u32
     ensures { le 4 result ≡ mix_bytes colours ++ 0 ∷ [] }
 {
@@ -59,13 +61,6 @@ pub fn bank(maps: [Map; 4], registers: Registers) -> [u32; 32]
     ensures { word_bytes result ≡ bank_of maps registers }
 {
     let map = map_at(maps, registers.index as u32);
-    let terms = registers.terms;
-    let colours = registers.colours;
-    let dimensions = registers.figure.dimensions;
-    let origin = registers.figure.origin;
-    let source = registers.pointers.source;
-    let pattern = registers.pointers.pattern;
-    let destination = registers.pointers.destination;
     [
         0,
         0,
@@ -75,9 +70,9 @@ pub fn bank(maps: [Map; 4], registers: Registers) -> [u32; 32]
         map.base,
         size_word(map),
         format_word(map),
-        word(terms.e),
-        word(terms.k1),
-        word(terms.k2),
+        word(registers.terms.e),
+        word(registers.terms.k1),
+        word(registers.terms.k2),
         registers.figure.steps,
         0,
         0,
@@ -85,19 +80,19 @@ pub fn bank(maps: [Map; 4], registers: Registers) -> [u32; 32]
         0,
         0,
         0,
-        mixes_word(colours),
-        colours.compare.value,
-        colours.planes,
-        colours.carries,
-        colours.foreground.colour,
-        colours.background.colour,
-        point_word(dimensions),
+        mixes_word(registers.colours),
+        registers.colours.compare.value,
+        registers.colours.planes,
+        registers.colours.carries,
+        registers.colours.foreground.colour,
+        registers.colours.background.colour,
+        point_word(registers.figure.dimensions),
         0,
         0,
-        point_word(origin),
-        point_word(source),
-        point_word(pattern),
-        spot_word(destination),
+        point_word(registers.figure.origin),
+        point_word(registers.pointers.source),
+        point_word(registers.pointers.pattern),
+        point_word(registers.pointers.destination),
         registers.figure.operations,
     ]
 }

@@ -1,4 +1,5 @@
 -- The image of a valid record loads to the record: each register's bytes stand at its offset, and give back a number that fits them.
+use Rattle.std.proofs.Common.{Ok}
 use mathlib.Core.Path.{◌≡◌, refl, sym, ap, ◌∙◌}
 use mathlib.Core.Bool.{true}
 use mathlib.Core.List.{List, [], ◌∷◌}
@@ -19,7 +20,6 @@ use Rattle.numbers.proofs.SignedBytes.{signed_residue}
 use Rattle.numbers.proofs.Choices.{and_left, and_right}
 use Rattle.pixels.specs.declared.Map.{Map}
 use Rattle.parts.specs.declared.shapes.Point.{Point}
-use Rattle.parts.specs.declared.refusals.Refusal.TheVariants.{Accepted}
 use Rattle.parts.specs.Registers.{others}
 use Rattle.parts.specs.Reduced.{map_reduced, point_reduced, destination_reduced, spot_reduced, term_reduced, terms_reduced}
 use Rattle.rules.specs.Maps.{map_at}
@@ -74,8 +74,8 @@ four_maps (m ∷ a ∷ b ∷ []) e = absurd (omega arith)
 four_maps (m ∷ a ∷ b ∷ c ∷ []) e = refl
 four_maps (m ∷ a ∷ b ∷ c ∷ d ∷ maps) e = absurd (omega arith)
 
-point_back : (p : Point) → point_reduced p ≡ true
-    → ◌≡◌ {A = Point} (record { x = number_of (take 2 (le 2 p.x)); y = number_of (take 2 (le 2 p.y)) }) p
+point_back : (p : Point ℕ) → point_reduced p ≡ true
+    → ◌≡◌ {A = Point ℕ} (record { x = number_of (take 2 (le 2 p.x)); y = number_of (take 2 (le 2 p.y)) }) p
 point_back p e =
     let b = valid.point_bounds p e in
     let x = number_whole 2 p.x (omega arith) in
@@ -189,6 +189,6 @@ image_injective c d hc hd vc vd e = sym (loaded_image c hc vc) ∙ ap loaded e �
 -- ---- save, then load into any coprocessor
 
 pub load_save : (c d : Coprocessor) (b : List ℕ) → Held c → valid_of c ≡ true → length b ≡ image_length
-    → load_answer d (saved c b) ≡ record { refusal = Accepted; coprocessor = c }
+    → load_answer d (saved c b) ≡ record { outcome = Ok tt; coprocessor = c }
 unfolding saved saves load_answer
 load_save c d b held v long = rw (eq-eqb (length b) image_length long, v, loads_image c held v, loaded_image c held v)

@@ -1,5 +1,6 @@
 -- No refused call changes anything: a write, run or load hands the record back, a run does nothing and leaves the memory, a save leaves the buffer, a
 -- read gives 0, by the choice that each answer makes; and a fresh state is valid, by computing every test.
+use Rattle.std.proofs.Common.{Result, Ok, Err}
 use mathlib.Core.Path.{◌≡◌, refl, sym}
 use mathlib.Core.Bool.{Bool, true, false, not, false≢true}
 use mathlib.Core.List.{List}
@@ -8,7 +9,7 @@ use Rattle.numbers.specs.Choose.{choose}
 use Rattle.numbers.specs.declared.bytes.Write.{Write}
 use Rattle.numbers.proofs.Choices.{by_test}
 use Rattle.parts.specs.declared.refusals.Refusal.{Refusal}
-use Rattle.parts.specs.declared.refusals.Refusal.TheVariants.{Accepted, Image}
+use Rattle.parts.specs.declared.refusals.Refusal.TheVariants.{Image}
 use Rattle.parts.specs.Drawings.{unfinished}
 use Rattle.parts.specs.Registers.{placed}
 use Rattle.parts.specs.Fresh.{fresh_registers}
@@ -33,7 +34,7 @@ write_refused w c refused = rw refused
 pub write_unfinished : (w : Write) (c : Coprocessor) → unfinished c.drawing ≡ true → is_accepted (write_refusal w c) ≡ false
 unfolding write_refusal
 write_unfinished w c going =
-    by_test (λ (r : Refusal). is_accepted r ≡ false) (not (placed w.offset w.length)) (λ other. refl) (λ well. rw going)
+    by_test (λ (r : Result Unit Refusal). is_accepted r ≡ false) (not (placed w.offset w.length)) (λ other. refl) (λ well. rw going)
 
 -- 01, Numbers a call answers with: a refused read gives 0
 pub read_refused : (c : Coprocessor) (offset length : ℕ) → is_accepted (read_refusal c offset length) ≡ false → (read_answer c offset length).value ≡ 0
@@ -41,10 +42,10 @@ unfolding read_answer
 read_refused c offset length refused = rw refused
 
 -- 01, Numbers a call answers with: a refused load keeps the old state
-pub load_refused : (c : Coprocessor) (b : List ℕ) → is_accepted (load_answer c b).refusal ≡ false → (load_answer c b).coprocessor ≡ c
+pub load_refused : (c : Coprocessor) (b : List ℕ) → is_accepted (load_answer c b).outcome ≡ false → (load_answer c b).coprocessor ≡ c
 unfolding load_answer
 load_refused c b =
-    by_test (λ (r : Written). is_accepted r.refusal ≡ false → r.coprocessor ≡ c) (loads b)
+    by_test (λ (r : Written). is_accepted r.outcome ≡ false → r.coprocessor ≡ c) (loads b)
     (λ holds refused. absurd (false≢true (sym refused))) (λ fails refused. refl)
 
 -- 01, Numbers a call answers with: a refused save keeps the buffer
@@ -52,12 +53,12 @@ pub save_refused : (c : Coprocessor) (b : List ℕ) → is_accepted (save_refusa
 unfolding save_refusal saved
 save_refused c b = by (saves c b)
   where
-    by : (t : Bool) → is_accepted (choose t Accepted Image) ≡ false → choose t (image_of c) b ≡ b
+    by : (t : Bool) → is_accepted (choose t (Ok tt) (Err Image)) ≡ false → choose t (image_of c) b ≡ b
     by true refused = absurd (false≢true (sym refused))
     by false refused = refl
 
 -- 01, Numbers a call answers with: a refused run does 0 positions
-pub run_refused : (c : Coprocessor) (memory : List ℕ) (n : ℕ) → is_accepted (run_answer c memory n).refusal ≡ false
+pub run_refused : (c : Coprocessor) (memory : List ℕ) (n : ℕ) → is_accepted (run_answer c memory n).outcome ≡ false
     → (run_memory c memory n ≡ memory) × ((run_answer c memory n).done ≡ 0) × ((run_answer c memory n).coprocessor ≡ c)
 unfolding run_memory run_answer
 run_refused c memory n refused = (rw refused, rw refused, rw refused)

@@ -11,7 +11,6 @@ use Rattle.numbers.specs.Circles.{circle}
 use Rattle.numbers.proofs.Choices.{by_test, and_left, and_right}
 use Rattle.pixels.specs.declared.Map.{Map}
 use Rattle.parts.specs.declared.shapes.Point.{Point}
-use Rattle.parts.specs.declared.shapes.Spot.{Spot}
 use Rattle.parts.specs.declared.shapes.Figure.{Figure}
 use Rattle.parts.specs.declared.drawing.Drawing.{Drawing}
 use Rattle.parts.specs.declared.drawing.Drawing.TheVariants.{Nothing, Line, Codes, Block}
@@ -63,7 +62,7 @@ with_pen_own c = refl
 
 -- ---- pointers inside a reduced map
 
-inside_reduced : (map : Map) (p : Point) → map_reduced map ≡ true → is_inside map p ≡ true → point_reduced p ≡ true
+inside_reduced : (map : Map) (p : Point ℕ) → map_reduced map ≡ true → is_inside map p ≡ true → point_reduced p ≡ true
 unfolding map_reduced point_reduced
 inside_reduced map p r h =
     let across = inside_x map p h in
@@ -84,7 +83,7 @@ pattern_unused s pen unused =
     kept s (λ q. q.pointers.pattern ≡ pen.pointers.pattern) (λ from to e d q known h. simp unused h) (λ d q h. simp unused h) (λ d q h. h) pen refl
 
 -- a pointer that is inside a reduced map where it is used, and stays where it is not, is reduced if it was
-moved_reduced : (used : Bool) (map : Map) (p q : Point) → map_reduced map ≡ true → (not used || is_inside map q) ≡ true → (used ≡ false → q ≡ p)
+moved_reduced : (used : Bool) (map : Map) (p q : Point ℕ) → map_reduced map ≡ true → (not used || is_inside map q) ≡ true → (used ≡ false → q ≡ p)
     → point_reduced p ≡ true → point_reduced q ≡ true
 moved_reduced true map p q r inside stays h = inside_reduced map q r inside
 moved_reduced false map p q r inside stays h = rw (stays refl) h
@@ -94,11 +93,11 @@ moved_reduced false map p q r inside stays h = rw (stays refl) h
 error_on : (e : ℤ) → circle 8192 16384 e ≡ e → term_reduced e ≡ true
 error_on e on = ap term_reduced (sym on) ∙ term_circle_reduced e
 
-spot_on : (p : Spot) → spot_reduced p ≡ true → SpotOn p
+spot_on : (p : Point ℤ) → spot_reduced p ≡ true → SpotOn p
 unfolding spot_reduced
 spot_on p h = (destination_circle_fixed p.x (search (h, and_left)), destination_circle_fixed p.y (search (h, and_right)))
 
-spot_reduced_lem : (p : Spot) → SpotOn p → spot_reduced p ≡ true
+spot_reduced_lem : (p : Point ℤ) → SpotOn p → spot_reduced p ≡ true
 unfolding spot_reduced
 spot_reduced_lem p on =
     let x = ap destination_reduced (sym on.0) ∙ destination_circle_reduced p.x in

@@ -28,10 +28,10 @@ abbrev pub stored_of : Coprocessor → List ℕ
 stored_of c = values_of c.maps c.registers
 
 -- the two numbers of a pair
-pair_x : (p : Point) → point_reduced p ≡ true → p.x < 256 ^ 2
+pair_x : (p : Point ℕ) → point_reduced p ≡ true → p.x < 256 ^ 2
 pair_x p e = let b = valid.point_bounds p e in omega arith
 
-pair_y : (p : Point) → point_reduced p ≡ true → p.y < 256 ^ 2
+pair_y : (p : Point ℕ) → point_reduced p ≡ true → p.y < 256 ^ 2
 pair_y p e = let b = valid.point_bounds p e in omega arith
 
 -- a signed register as it reads back

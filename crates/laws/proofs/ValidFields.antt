@@ -37,11 +37,11 @@ map_bounds m e =
       format = ltb-true _ _ (search and_right);
     }
 
-pub record PointBounds (p : Point) : Type 0 where
+pub record PointBounds (p : Point ℕ) : Type 0 where
   pub x : p.x < 4096
   pub y : p.y < 4096
 
-pub point_bounds : (p : Point) → point_reduced p ≡ true → PointBounds p
+pub point_bounds : (p : Point ℕ) → point_reduced p ≡ true → PointBounds p
 unfolding point_reduced
 point_bounds p e = record { x = ltb-true _ _ (search and_left); y = ltb-true _ _ (search and_right) }
 

@@ -10,7 +10,8 @@ ghost use Rattle.pixels.specs.Pixels.{pixel_at, with_pixel};
 
 use pixels::Map;
 
-// What a call on pixels of more than 8 bits answers.
+// What a call on pixels of more than 8 bits answers. C is handed numbers and hands them in, a map's one by one, so that the
+// refusal, a condition's answer and its number are numbers here too.
 const TOO_WIDE: u32 = 4294967295;
 
 // The destination pixel after a mix under the plane mask.
@@ -29,12 +30,12 @@ pub fn leaf_holds(bits: u32, condition: u8, planes: u32, destination: u32, value
     ensures { result ≡ choose (leb bits 8) (choose (condition_holds bits condition planes destination value) 1 0) 4294967295 }
 {
     if bits <= 8 {
-        let depth = mixes::depth_of(bits, planes);
-        if mixes::conditions::holds(depth, condition, destination, value) {
-            1
-        } else {
-            0
-        }
+        mixes::conditions::holds(
+            mixes::depth_of(bits, planes),
+            condition,
+            destination,
+            value,
+        ) as u32
     } else {
         TOO_WIDE
     }
@@ -78,8 +79,7 @@ pub fn leaf_put(memory: &mut [u8], base: u32, width: u16, format: u8, x: u16, y:
         height: 0,
         format,
     };
-    let at = pixels::place(map, x, y);
-    if at < memory.len() {
+    if pixels::place(map, x, y) < memory.len() {
         pixels::put(memory, map, x, y, value);
     }
 }

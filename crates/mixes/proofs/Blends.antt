@@ -19,7 +19,7 @@ abbrev pub spread : (bits m : ℕ) → ℕ
 spread bits m = choose (eqb (bits % 2) 1) m 0
 
 -- the blend of a code under a plane mask
-abbrev pub blend_of : (m code : ℕ) → Blend
+abbrev pub blend_of : (m code : ℕ) → Blend ℕ
 blend_of m code =
     record {
       always = spread (code / 8) m;

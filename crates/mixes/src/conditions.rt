@@ -15,6 +15,7 @@ fn compares(depth: Depth, condition: u8, destination: u32, value: u32) -> bool
 {
     let d = destination & depth.planes;
     let v = value & depth.planes;
+    // The condition is the register's own number: a kind for each would be decoded from the same eight, and asked once.
     match condition {
         0 => true,
         1 => v < d,

@@ -7,12 +7,14 @@ ghost use Rattle.mixes.specs.Inner.{Cut};
 
 use arithmetic::arithmetic;
 use logical::{blend_of, blend_pixels};
+use numbers::bytes::ones;
 
 mod arithmetic;
 pub mod conditions;
 pub mod logical;
 
-// The bits of a pixel, the pixel that is all ones, and the plane mask cut to them: worked once for a drawing.
+// The bits of a pixel, the pixel that is all ones, and the plane mask cut to them: worked once for a drawing. That it is cut to at
+// most 8 bits (`Cut`) stands in the clauses: `depth_of` of specs makes a depth of any two numbers, and `blend_of` takes any depth.
 #[derive(Clone, Copy)]
 pub struct Depth {
     pub bits: u32,
@@ -25,7 +27,7 @@ pub fn depth_of(bits: u32, planes: u32) -> Depth
     requires { bits ≤ 8 }
     ensures { result ≡ depth_of bits planes }
 {
-    let ones = (1 << bits) - 1;
+    let ones = ones(bits);
     Depth {
         bits,
         ones,

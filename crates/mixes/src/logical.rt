@@ -1,18 +1,19 @@
 ghost use Rattle.std.specs.Prelude.{◌≡◌, ℕ, ◌%◌, ◌<◌, eqb};
 ghost use Rattle.numbers.specs.Choose.{choose};
 ghost use Rattle.mixes.specs.Mixes.{mixed};
-ghost use Rattle.mixes.specs.Inner.{Cut, blended};
+ghost use Rattle.mixes.specs.Inner.{Cut, Gives, made_by, blended};
 
 use crate::Depth;
+use std::ops::{BitAnd, BitXor};
 
 // A logical mix under a plane mask, by the bits of D that it turns: the exclusive or of four masks, of which one counts always,
-// one where S is 1, one where D is 1, and one where both are.
+// one where S is 1, one where D is 1, and one where both are. The masks are of one pixel, or of all those in a byte.
 #[derive(Clone, Copy)]
-pub struct Blend {
-    pub always: u32,
-    pub source: u32,
-    pub destination: u32,
-    pub both: u32,
+pub struct Blend<T> {
+    pub always: T,
+    pub source: T,
+    pub destination: T,
+    pub both: T,
 }
 
 // The planes where the last bit of `bits` is 1, and otherwise none.
@@ -23,7 +24,7 @@ fn spread(bits: u8, planes: u32) -> u32
 }
 
 // The blend of the mix `code`, from 0 to 15, by its four bits: no bit is turned that the plane mask does not enable.
-pub fn blend_of(depth: Depth, code: u8) -> Blend
+pub fn blend_of(depth: Depth, code: u8) -> Blend<u32>
     ensures { Cut depth → code < 16 → (s d : ℕ) → blended depth.bits result s d ≡ mixed depth.bits code depth.planes s d }
 {
     let planes = depth.planes;
@@ -40,7 +41,7 @@ pub fn blend_of(depth: Depth, code: u8) -> Blend
 }
 
 // The blend with this source, whatever the source pixel is.
-pub fn solid(blend: Blend, source: u32) -> Blend
+pub fn solid(blend: Blend<u32>, source: u32) -> Blend<u32>
     ensures { (n s d : ℕ) → blended n result s d ≡ blended n blend source d }
 {
     Blend {
@@ -51,13 +52,23 @@ pub fn solid(blend: Blend, source: u32) -> Blend
     }
 }
 
+impl<T: Copy + BitAnd<Output = T> + BitXor<Output = T>> Blend<T> {
+    // What it makes of a source and a destination, by what `&` and `^` give.
+    pub fn of(self, source: T, destination: T) -> T
+        requires { (a b : T) → T.can_bitand a b × T.can_bitxor a b }
+        ensures { (and xor : T → T → T) → Gives T.bitand_gives and → Gives T.bitxor_gives xor
+            → result ≡ made_by and xor self source destination }
+    {
+        let always = self.always ^ (self.source & source);
+        let turned = self.destination ^ (self.both & source);
+        destination ^ (always ^ (turned & destination))
+    }
+}
+
 // The pixel that a blend makes of two pixels.
-pub fn blend_pixels(depth: Depth, blend: Blend, source: u32, destination: u32) -> u32
+pub fn blend_pixels(depth: Depth, blend: Blend<u32>, source: u32, destination: u32) -> u32
     requires { Cut depth }
     ensures { result ≡ blended depth.bits blend source destination }
 {
-    let d = destination & depth.ones;
-    let always = blend.always ^ (blend.source & source);
-    let turned = blend.destination ^ (blend.both & source);
-    d ^ (always ^ (turned & d))
+    blend.of(source, destination & depth.ones)
 }

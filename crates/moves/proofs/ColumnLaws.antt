@@ -27,7 +27,7 @@ use Rattle.moves.proofs.Kept.{turned_inside, source_in, pattern_in}
 
 module _ (s : Travel) (pen : Pen) (on : OnCircle pen.pointers.destination.x) where
   -- one column more of a pointer that is used, or not
-  column_more : (used : Bool) (k last : ℕ) (p : Point)
+  column_more : (used : Bool) (k last : ℕ) (p : Point ℕ)
       → choose used (point_stepped (record { base = 0; width = last; height = 0; format = 0 }) (record { x = s.course.x; y = Stay })
       (record { x = choose used (turned_by s.course.x k last p.x) p.x; y = p.y }))
       (record { x = choose used (turned_by s.course.x k last p.x) p.x; y = p.y })
@@ -82,7 +82,7 @@ columns_inside s k d pen h =
     (by s.source.used s.source.map pen.pointers.source (and_left (not s.source.used || is_inside s.source.map pen.pointers.source) _ h))
     (by s.pattern.used s.pattern.map pen.pointers.pattern (and_right (not s.source.used || is_inside s.source.map pen.pointers.source) _ h))
   where
-    by : (used : Bool) (map : Map) (p : Point) → (not used || is_inside map p) ≡ true
+    by : (used : Bool) (map : Map) (p : Point ℕ) → (not used || is_inside map p) ≡ true
         → (not used || is_inside map (record { x = choose used (turned_by s.course.x k map.width p.x) p.x; y = p.y })) ≡ true
     by true map p within = turned_inside map s.course.x Stay k 0 p within
     by false map p within = refl
@@ -98,8 +98,8 @@ module _ (s : Travel) (pen : Pen) (on : OnCircle pen.pointers.destination.x) (in
   rest = omega arith
 
   -- a pointer that is used, or not
-  point_returned : (used : Bool) (map : Map) (p : Point) → (used ≡ true → p.x ≤ map.width)
-      → let q : Point = record { x = choose used (turned_by s.course.x k map.width p.x) p.x; y = p.y } in
+  point_returned : (used : Bool) (map : Map) (p : Point ℕ) → (used ≡ true → p.x ≤ map.width)
+      → let q : Point ℕ = record { x = choose used (turned_by s.course.x k map.width p.x) p.x; y = p.y } in
       choose used (row_point s map q) q ≡ returned s (last - k) used map p
   unfolding row_point
   point_returned true map p h =

@@ -7,7 +7,6 @@ use Rattle.numbers.specs.Bytes.{byte_of}
 use Rattle.numbers.specs.Circles.{forth, back, residue, circle}
 use Rattle.pixels.specs.declared.Map.{Map}
 use Rattle.parts.specs.declared.shapes.Point.{Point}
-use Rattle.parts.specs.declared.shapes.Spot.{Spot}
 use Rattle.parts.specs.declared.drawing.Drawing.{Drawing}
 use Rattle.parts.specs.declared.drawing.Drawing.TheVariants.{Nothing, Line, Codes, Block}
 use Rattle.rules.specs.Operations.{is_fill, is_block, mode_of, is_map, source_is_colour, uses_source, uses_pattern}
@@ -26,7 +25,7 @@ abbrev eight : Map
 eight = record { base = 0; width = 7; height = 7; format = 3 }
 
 -- a drawing with these pixel operations, dimensions, step codes, K1 and K2, over maps of 8 by 8
-abbrev travel : ℕ → Point → ℕ → ℤ → ℤ → Travel
+abbrev travel : ℕ → Point ℕ → ℕ → ℤ → ℤ → Travel
 travel operations dimensions steps k1 k2 =
     record {
       course = course_of operations;
@@ -38,7 +37,7 @@ travel operations dimensions steps k1 k2 =
     }
 
 -- a pen with the source at one place and the destination at another
-abbrev pen_at : Point → Spot → ℤ → Drawing → Pen
+abbrev pen_at : Point ℕ → Point ℤ → ℤ → Drawing → Pen
 pen_at source destination e drawing =
     record { pointers = record { source = source; pattern = record { x = 0; y = 0 }; destination = destination }; e = e; drawing = drawing }
 
@@ -82,7 +81,7 @@ run count steps n =
     repeated (moved (travel 0x04018000 (record { x = 0; y = 0 }) steps (pos 0) (pos 0))) n
     (pen_at (record { x = 0; y = 0 }) (record { x = pos 17; y = pos 10 }) (pos 0) (Codes count 0 0))
 
-abbrev ended : Spot → Drawing → Pen
+abbrev ended : Point ℤ → Drawing → Pen
 ended destination drawing = pen_at (record { x = 0; y = 0 }) destination (pos 0) drawing
 
 -- 01, Cases, 6 to 8: code 35 hex ends at (22,5) after six positions; steps FFFF0035 hex stop there; code 20 hex is one position and no stop

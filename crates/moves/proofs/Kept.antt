@@ -13,14 +13,12 @@ use Rattle.numbers.proofs.CircleLaws.{circle_circle}
 use Rattle.numbers.proofs.Choices.{by_test, by_lt, asked, and_left, and_right, and_both}
 use Rattle.pixels.specs.declared.Map.{Map}
 use Rattle.parts.specs.declared.shapes.Point.{Point}
-use Rattle.parts.specs.declared.shapes.Spot.{Spot}
 use Rattle.parts.specs.declared.drawing.Drawing.{Drawing}
 use Rattle.parts.specs.declared.drawing.Drawing.TheVariants.{Nothing, Line, Codes, Block}
 use Rattle.rules.specs.Maps.{is_inside}
 use Rattle.rules.specs.Codes.{code_at}
 use Rattle.rules.proofs.PointerLaws.{inside_x, inside_y}
 use Rattle.moves.specs.declared.Turn.{Turn}
-use Rattle.moves.specs.declared.Step.{Step}
 use Rattle.moves.specs.declared.Travel.{Travel}
 use Rattle.moves.specs.declared.Pen.{Pen}
 use Rattle.moves.specs.Turns.{turned_by, point_stepped, spot_stepped}
@@ -33,7 +31,7 @@ use Rattle.moves.proofs.CircledLaws.{OnCircle, circled_on}
 -- ---- what each kind of move keeps
 
 module _ (s : Travel) (P : Pen → Type 0)
-    (step : (from to : Step) (e : ℤ) (d : Drawing) (pen : Pen) → (e ≡ pen.e) ⊎ (e ≡ line_error s pen.e) → P pen → P (pen_stepped s from to e d pen))
+    (step : (from to : Point Turn) (e : ℤ) (d : Drawing) (pen : Pen) → (e ≡ pen.e) ⊎ (e ≡ line_error s pen.e) → P pen → P (pen_stepped s from to e d pen))
     (row : (d : Drawing) (pen : Pen) → P pen → P (row_passed s d pen))
     (pass : (d : Drawing) (pen : Pen) → P pen → P (pen_with d pen)) where
   pub kept : (pen : Pen) → P pen → P (moved s pen)
@@ -49,7 +47,7 @@ module _ (s : Travel) (P : Pen → Type 0)
 
 -- ---- pointers inside their maps
 
-pub turned_inside : (map : Map) (t u : Turn) (j k : ℕ) (p : Point) → is_inside map p ≡ true
+pub turned_inside : (map : Map) (t u : Turn) (j k : ℕ) (p : Point ℕ) → is_inside map p ≡ true
     → is_inside map (record { x = turned_by t j map.width p.x; y = turned_by u k map.height p.y }) ≡ true
 unfolding is_inside
 turned_inside map t u j k p h =
@@ -58,10 +56,10 @@ turned_inside map t u j k p h =
     search and_both
 
 -- a used pointer turns, and an unused one stays
-used_inside : (used : Bool) (map : Map) (t u : Turn) (j k : ℕ) (p : Point) → is_inside map p ≡ true
+used_inside : (used : Bool) (map : Map) (t u : Turn) (j k : ℕ) (p : Point ℕ) → is_inside map p ≡ true
     → is_inside map (choose used (record { x = turned_by t j map.width p.x; y = turned_by u k map.height p.y }) p) ≡ true
 used_inside used map t u j k p h =
-    by_test (λ (q : Point). is_inside map q ≡ true) used (λ yes. turned_inside map t u j k p h) (λ no. h)
+    by_test (λ (q : Point ℕ). is_inside map q ≡ true) used (λ yes. turned_inside map t u j k p h) (λ no. h)
 
 pub source_inside : (s : Travel) (pen : Pen) → is_inside s.source.map pen.pointers.source ≡ true
     → is_inside s.source.map (moved s pen).pointers.source ≡ true
@@ -88,7 +86,7 @@ source_in s pen h = asked s.source.used _ (search (h, and_left))
 pub pattern_in : (s : Travel) (pen : Pen) → pointers_inside s pen ≡ true → s.pattern.used ≡ true → is_inside s.pattern.map pen.pointers.pattern ≡ true
 pattern_in s pen h = asked s.pattern.used _ (search (h, and_right))
 
-where_used : (used : Bool) (map : Map) (p q : Point) → (is_inside map p ≡ true → is_inside map q ≡ true)
+where_used : (used : Bool) (map : Map) (p q : Point ℕ) → (is_inside map p ≡ true → is_inside map q ≡ true)
     → (not used || is_inside map p) ≡ true → (not used || is_inside map q) ≡ true
 where_used true map p q keeps h = keeps h
 where_used false map p q keeps h = refl
@@ -104,7 +102,7 @@ pointers_moved s pen h =
 -- ---- the destination on its circle, and E on its own
 
 -- both of the destination's pointers lie on their circle
-abbrev pub SpotOn : Spot → Type 0
+abbrev pub SpotOn : Point ℤ → Type 0
 SpotOn p = OnCircle p.x × OnCircle p.y
 
 pub destination_moved : (s : Travel) (pen : Pen) → SpotOn pen.pointers.destination → SpotOn (moved s pen).pointers.destination

@@ -4,6 +4,7 @@ pub mod CircledLaws
 pub mod BlockLaws
 pub mod ColumnLaws
 pub mod Choices
+pub mod PenLaws
 pub mod Counters
 pub mod Kept
 pub mod Examples

@@ -8,7 +8,7 @@ use Rattle.rules.specs.Operations.{function_of, source_field, pattern_field, mod
 use Rattle.rules.specs.Maps.{map_at}
 use Rattle.moves.specs.declared.Turn.{Turn}
 use Rattle.moves.specs.declared.Turn.TheVariants.{Stay, Forth, Back}
-use Rattle.moves.specs.declared.Step.{Step}
+use Rattle.parts.specs.declared.shapes.Point.{Point}
 use Rattle.moves.specs.declared.Course.{Course}
 use Rattle.moves.specs.declared.Travel.{Travel}
 
@@ -17,7 +17,7 @@ unfoldable pub sign_of : ℕ → Turn
 sign_of bit = choose (eqb bit 1) Back Forth
 
 -- 01, The functions, Line: octant bit 0 is Y major: a step of the major axis alone
-unfoldable pub straight_of : ℕ → Step
+unfoldable pub straight_of : ℕ → Point Turn
 straight_of octant =
     choose (eqb (octant % 2) 1) (record { x = Stay; y = sign_of (octant / 2 % 2) }) (record { x = sign_of (octant / 4 % 2); y = Stay })
 

@@ -4,32 +4,37 @@ use Rattle.numbers.specs.Choose.{choose}
 use Rattle.numbers.specs.Circles.{circle}
 use Rattle.pixels.specs.declared.Map.{Map}
 use Rattle.parts.specs.declared.shapes.Point.{Point}
+use Rattle.moves.specs.declared.Turn.{Turn}
 use Rattle.parts.specs.declared.drawing.Drawing.{Drawing}
 use Rattle.rules.specs.Maps.{is_inside}
-use Rattle.moves.specs.declared.Step.{Step}
 use Rattle.moves.specs.declared.Way.{Way}
 use Rattle.moves.specs.declared.Way.TheVariants.{Along, Column, Row, Here}
+use Rattle.moves.specs.declared.Ground.{Ground}
 use Rattle.moves.specs.declared.Travel.{Travel}
 use Rattle.moves.specs.declared.Pen.{Pen}
-use Rattle.moves.specs.Turns.{opposite, turned_by, circled_by, spot_stepped}
+use Rattle.moves.specs.Turns.{opposite, turned_by, circled_by}
 use Rattle.moves.specs.Moves.{pen_stepped, pen_with, column_passed, row_passed}
 
 -- the pen after going this way: its used pointers stepped, at the next column, past a row's end, or as it is with another drawing in hand
 unfoldable pub went_by : Travel → Way → Pen → Pen
-went_by s (Along from_x from_y to_x to_y e drawing) pen =
-    pen_stepped s (record { x = from_x; y = from_y }) (record { x = to_x; y = to_y }) e drawing pen
+went_by s (Along from to e drawing) pen = pen_stepped s from to e drawing pen
 went_by s (Column drawing) pen = column_passed s drawing pen
 went_by s (Row drawing) pen = row_passed s drawing pen
 went_by s (Here drawing) pen = pen_with drawing pen
 
--- the pen with its destination stepped alone
-unfoldable pub destination_stepped : Step → ℤ → Drawing → Pen → Pen
-destination_stepped step e drawing pen =
+-- a pointer by a step whose part in X is made k times, where its map is used
+abbrev pub turned : Ground → ℕ → Point Turn → Point ℕ → Point ℕ
+turned g k step p =
+    choose g.used (record { x = turned_by step.x k g.map.width p.x; y = turned_by step.y 1 g.map.height p.y }) p
+
+-- the pen after a step whose part in X is made k times
+unfoldable pub pen_turned : Travel → ℕ → Point Turn → Point Turn → ℤ → Drawing → Pen → Pen
+pen_turned s k from to e drawing pen =
     record {
       pointers = record {
-        source = pen.pointers.source;
-        pattern = pen.pointers.pattern;
-        destination = spot_stepped step pen.pointers.destination;
+        source = turned s.source k from pen.pointers.source;
+        pattern = turned s.pattern k from pen.pointers.pattern;
+        destination = record { x = circled_by to.x k pen.pointers.destination.x; y = circled_by to.y 1 pen.pointers.destination.y };
       };
       e = e;
       drawing = drawing;
@@ -61,7 +66,7 @@ columns_passed s k drawing pen =
     }
 
 -- a pointer there
-abbrev pub returned : Travel → ℕ → Bool → Map → Point → Point
+abbrev pub returned : Travel → ℕ → Bool → Map → Point ℕ → Point ℕ
 returned s k used map p =
     record {
       x = choose used (turned_by (opposite s.course.x) k map.width p.x) p.x;

@@ -5,12 +5,11 @@ use Rattle.numbers.specs.Choose.{choose}
 use Rattle.numbers.specs.Circles.{circle}
 use Rattle.pixels.specs.declared.Map.{Map}
 use Rattle.parts.specs.declared.shapes.Point.{Point}
-use Rattle.parts.specs.declared.shapes.Spot.{Spot}
+use Rattle.moves.specs.declared.Turn.{Turn}
 use Rattle.parts.specs.declared.drawing.Drawing.{Drawing}
 use Rattle.parts.specs.declared.drawing.Drawing.TheVariants.{Nothing, Line, Codes, Block}
 use Rattle.rules.specs.Codes.{steps_of, stops, code_at}
 use Rattle.moves.specs.declared.Turn.TheVariants.{Stay, Forth}
-use Rattle.moves.specs.declared.Step.{Step}
 use Rattle.moves.specs.declared.Course.{Course}
 use Rattle.moves.specs.declared.Travel.{Travel}
 use Rattle.moves.specs.declared.Pen.{Pen}
@@ -18,19 +17,19 @@ use Rattle.moves.specs.Turns.{opposite, turned_by, circled_by, point_stepped, sp
 use Rattle.moves.specs.Steps.{line_step, code_step, goes_up}
 
 -- 01, The functions: X by +1
-abbrev pub right : Step
+abbrev pub right : Point Turn
 right = record { x = Forth; y = Stay }
 
 -- docs/DIFFERENCES.md, D3: at a step of a line or code, read forms move source and pattern by the step, write forms by +1 in X
-unfoldable pub source_by : Course → Step → Step
+unfoldable pub source_by : Course → Point Turn → Point Turn
 source_by course step = choose course.read step right
 
 -- 01, The functions: write forms move the destination by the step, read forms by +1 in X
-unfoldable pub destination_by : Course → Step → Step
+unfoldable pub destination_by : Course → Point Turn → Point Turn
 destination_by course step = choose course.read right step
 
 -- 01, Maps and pointers: the pen with its used pointers stepped; unused ones stay
-unfoldable pub pen_stepped : Travel → Step → Step → ℤ → Drawing → Pen → Pen
+unfoldable pub pen_stepped : Travel → Point Turn → Point Turn → ℤ → Drawing → Pen → Pen
 pen_stepped s bySource byDestination e drawing pen =
     record {
       pointers = record {
@@ -47,7 +46,7 @@ unfoldable pub pen_with : Drawing → Pen → Pen
 pen_with drawing pen = record { pointers = pen.pointers; e = pen.e; drawing = drawing }
 
 -- 01, The functions: the pen after one step of a line or code
-unfoldable pub pen_gone : Travel → Step → ℤ → Drawing → Pen → Pen
+unfoldable pub pen_gone : Travel → Point Turn → ℤ → Drawing → Pen → Pen
 pen_gone s step e drawing pen = pen_stepped s (source_by s.course step) (destination_by s.course step) e drawing pen
 
 -- 01, The functions, Line: E below 0 adds K1, otherwise K2; E is reduced as in a write
@@ -85,7 +84,7 @@ column_passed s drawing pen =
     pen_stepped s (record { x = s.course.x; y = Stay }) (record { x = s.course.x; y = Stay }) pen.e drawing pen
 
 -- 01, The functions, PxBlt: at a row's end X returns to the row's first and Y steps
-unfoldable pub row_point : Travel → Map → Point → Point
+unfoldable pub row_point : Travel → Map → Point ℕ → Point ℕ
 row_point s map p =
     record {
       x = turned_by (opposite s.course.x) s.figure.dimensions.x map.width p.x;
@@ -93,7 +92,7 @@ row_point s map p =
     }
 
 -- docs/DIFFERENCES.md, D4: inverting, the destination's Y goes the other way
-unfoldable pub row_spot : Travel → Spot → Spot
+unfoldable pub row_spot : Travel → Point ℤ → Point ℤ
 row_spot s p =
     record {
       x = circled_by (opposite s.course.x) s.figure.dimensions.x p.x;

@@ -5,16 +5,16 @@ use Rattle.numbers.specs.Choose.{choose}
 use Rattle.rules.specs.Codes.{direction_of}
 use Rattle.moves.specs.declared.Turn.{Turn}
 use Rattle.moves.specs.declared.Turn.TheVariants.{Stay, Forth, Back}
-use Rattle.moves.specs.declared.Step.{Step}
+use Rattle.parts.specs.declared.shapes.Point.{Point}
 use Rattle.moves.specs.declared.Course.{Course}
 
 -- 01, The functions, Line: E below 0 steps the major axis, otherwise both
-unfoldable pub line_step : Course → ℤ → Step
+unfoldable pub line_step : Course → ℤ → Point Turn
 line_step course e =
     choose (lt_z e (pos 0)) course.straight (record { x = course.x; y = course.y })
 
 -- 01, The functions, Codes: bits 7-5 direction, 0 right, 1 up right, then anticlockwise; up lowers Y
-unfoldable pub code_step : ℕ → Step
+unfoldable pub code_step : ℕ → Point Turn
 code_step code =
     get_or
     (record { x = Forth; y = Stay }

@@ -3,10 +3,8 @@ use Rattle.std.specs.Prelude.{ℕ, ◌+◌, ℤ, pos, ◌+ℤ◌, ◌-ℤ◌}
 use Rattle.numbers.specs.Circles.{forth, back, circle}
 use Rattle.pixels.specs.declared.Map.{Map}
 use Rattle.parts.specs.declared.shapes.Point.{Point}
-use Rattle.parts.specs.declared.shapes.Spot.{Spot}
 use Rattle.moves.specs.declared.Turn.{Turn}
 use Rattle.moves.specs.declared.Turn.TheVariants.{Stay, Forth, Back}
-use Rattle.moves.specs.declared.Step.{Step}
 
 -- 01, The functions, PxBlt: the other way
 abbrev pub opposite : Turn → Turn
@@ -27,9 +25,9 @@ circled_by Forth k z = circle 2048 8192 (z +ℤ pos k)
 circled_by Back k z = circle 2048 8192 (z -ℤ pos k)
 
 -- 01, Maps and pointers: one step of a source or pattern pointer in its map
-unfoldable pub point_stepped : Map → Step → Point → Point
+unfoldable pub point_stepped : Map → Point Turn → Point ℕ → Point ℕ
 point_stepped map s p = record { x = turned_by s.x 1 map.width p.x; y = turned_by s.y 1 map.height p.y }
 
 -- 01, Maps and pointers: one step of the destination pointer
-unfoldable pub spot_stepped : Step → Spot → Spot
+unfoldable pub spot_stepped : Point Turn → Point ℤ → Point ℤ
 spot_stepped s p = record { x = circled_by s.x 1 p.x; y = circled_by s.y 1 p.y }

@@ -1,8 +1,8 @@
 ghost use Rattle.std.specs.Prelude.{◌≡◌, ◌||◌, eqb};
 ghost use Rattle.moves.specs.Decoded.{sign_of, straight_of, course_of, travel_of};
 
-use crate::{Course, Ground, Step, Travel, Turn};
-use parts::shapes::{Figure, Terms};
+use crate::{Course, Ground, Travel, Turn};
+use parts::shapes::{Figure, Point, Terms};
 use pixels::Map;
 use rules::maps::map_at;
 use rules::operations::{
@@ -17,16 +17,16 @@ fn sign_of(bit: u32) -> Turn
 }
 
 // A line's step along its major axis.
-fn straight_of(octant: u32) -> Step
+fn straight_of(octant: u32) -> Point<Turn>
     ensures { result ≡ straight_of octant }
 {
     if octant % 2 == 1 {
-        Step {
+        Point {
             x: Turn::Stay,
             y: sign_of(octant / 2 % 2),
         }
     } else {
-        Step {
+        Point {
             x: sign_of(octant / 4 % 2),
             y: Turn::Stay,
         }
@@ -37,10 +37,10 @@ fn straight_of(octant: u32) -> Step
 fn is_read(function: u32) -> bool
     ensures { result ≡ eqb function 2 || eqb function 3 }
 {
-    (function == 2) | (function == 3)
+    matches!(function, 2 | 3)
 }
 
-// Which way a drawing goes.
+// Which way a drawing goes. The function and the drawing mode are the register's own numbers, each asked here and nowhere after.
 fn course_of(operations: u32) -> Course
     ensures { result ≡ course_of operations }
 {
@@ -61,19 +61,16 @@ pub fn travel_of(figure: Figure, maps: [Map; 4], terms: Terms) -> Travel
     ensures { result ≡ travel_of figure maps terms }
 {
     let operations = figure.operations;
-    let course = course_of(operations);
-    let source = Ground {
-        used: uses_source(operations),
-        map: map_at(maps, source_field(operations)),
-    };
-    let pattern = Ground {
-        used: uses_pattern(operations),
-        map: map_at(maps, pattern_field(operations)),
-    };
     Travel {
-        course,
-        source,
-        pattern,
+        course: course_of(operations),
+        source: Ground {
+            used: uses_source(operations),
+            map: map_at(maps, source_field(operations)),
+        },
+        pattern: Ground {
+            used: uses_pattern(operations),
+            map: map_at(maps, pattern_field(operations)),
+        },
         figure,
         k1: terms.k1,
         k2: terms.k2,

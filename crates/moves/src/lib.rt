@@ -2,7 +2,7 @@
 #![tactic(auto)]
 
 use parts::drawing::Drawing;
-use parts::shapes::{Figure, Pointers};
+use parts::shapes::{Figure, Point, Pointers};
 use pixels::Map;
 
 pub mod decoded;
@@ -12,19 +12,12 @@ pub mod steps;
 mod turns;
 pub mod ways;
 
-// One pointer's part of a step.
-#[derive(Clone, Copy)]
+// One pointer's part of a step; a step is a point of two.
+#[derive(Clone, Copy, PartialEq, Eq)]
 pub enum Turn {
     Stay,
     Forth,
     Back,
-}
-
-// A step in X and Y.
-#[derive(Clone, Copy)]
-pub struct Step {
-    pub x: Turn,
-    pub y: Turn,
 }
 
 // Which way a drawing goes: the octant's signs, a line's step along its major axis, whether it is a read form, whether it inverts,
@@ -33,7 +26,7 @@ pub struct Step {
 pub struct Course {
     pub x: Turn,
     pub y: Turn,
-    pub straight: Step,
+    pub straight: Point<Turn>,
     pub read: bool,
     pub inverts: bool,
     pub bounds: bool,
@@ -44,10 +37,8 @@ pub struct Course {
 #[derive(Clone, Copy)]
 pub(crate) enum Way {
     Along {
-        from_x: Turn,
-        from_y: Turn,
-        to_x: Turn,
-        to_y: Turn,
+        from: Point<Turn>,
+        to: Point<Turn>,
         e: i32,
         drawing: Drawing,
     },
@@ -62,7 +53,8 @@ pub(crate) enum Way {
     },
 }
 
-// A map in which a pointer steps, and whether the drawing uses it.
+// A map in which a pointer steps, and whether the drawing uses it. It is no Option: definitions and laws of the crates above (`taken_map`,
+// `is_blended`) speak of the map also where it is not used.
 #[derive(Clone, Copy)]
 pub struct Ground {
     pub map: Map,

@@ -3,7 +3,7 @@ ghost use Rattle.parts.specs.Drawings.{with_inside};
 ghost use Rattle.moves.specs.Moves.{pen_with, moved};
 ghost use Rattle.moves.specs.Inner.{pointers_inside};
 
-use crate::pens::{pass_column, pass_row, pen_with, step_pen};
+use crate::pens::{pass_columns, return_row, step_pen};
 use crate::ways::way_of;
 use crate::{Pen, Travel, Way};
 
@@ -13,18 +13,15 @@ pub fn next(travel: Travel, inside: bool, pen: Pen) -> Pen
     requires { pointers_inside travel pen ≡ true }
     ensures { result ≡ moved travel (pen_with (with_inside inside pen.drawing) pen) }
 {
-    let way = way_of(travel, inside, pen);
-    match way {
+    match way_of(travel, inside, pen) {
         Way::Along {
-            from_x,
-            from_y,
-            to_x,
-            to_y,
+            from,
+            to,
             e,
             drawing,
-        } => step_pen(travel, from_x, from_y, to_x, to_y, e, drawing, pen),
-        Way::Column { drawing } => pass_column(travel, drawing, pen),
-        Way::Row { drawing } => pass_row(travel, drawing, pen),
-        Way::Here { drawing } => pen_with(drawing, pen),
+        } => step_pen(travel, 1, from, to, e, drawing, pen),
+        Way::Column { drawing } => pass_columns(travel, 1, drawing, pen),
+        Way::Row { drawing } => return_row(travel, travel.figure.dimensions.x, drawing, pen),
+        Way::Here { drawing } => Pen { drawing, ..pen },
     }
 }

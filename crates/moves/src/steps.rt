@@ -2,19 +2,22 @@ ghost use Rattle.std.specs.Prelude.{◌≡◌, ◌%◌, ltb, eqb};
 ghost use Rattle.numbers.specs.Choose.{choose};
 ghost use Rattle.moves.specs.Steps.{line_step, code_step, moves_row, goes_up};
 
-use crate::{Course, Step, Turn};
+use crate::{Course, Turn};
+use parts::shapes::Point;
 use rules::codes::direction_of;
 
 // The step of a line at this error.
-pub fn line_step(course: Course, e: i32) -> Step
+pub fn line_step(course: Course, e: i32) -> Point<Turn>
     ensures { result ≡ line_step course e }
 {
     if e < 0 {
-        return course.straight;
+        course.straight
+    } else {
+        Point {
+            x: course.x,
+            y: course.y,
+        }
     }
-    let x = course.x;
-    let y = course.y;
-    Step { x, y }
 }
 
 // The turn in Y of a direction; that in X is the one of two directions before.
@@ -31,11 +34,11 @@ fn turn_of(direction: u8) -> Turn
 }
 
 // The step of a code.
-pub fn code_step(code: u8) -> Step
+pub fn code_step(code: u8) -> Point<Turn>
     ensures { result ≡ code_step code }
 {
     let direction = direction_of(code);
-    Step {
+    Point {
         x: turn_of((direction + 6) % 8),
         y: turn_of(direction),
     }
@@ -45,20 +48,12 @@ pub fn code_step(code: u8) -> Step
 pub fn moves_row(turn: Turn) -> bool
     ensures { result ≡ moves_row turn }
 {
-    match turn {
-        Turn::Stay => false,
-        Turn::Forth => true,
-        Turn::Back => true,
-    }
+    turn != Turn::Stay
 }
 
 // Whether it moves it up.
 pub(crate) fn goes_up(turn: Turn) -> bool
     ensures { result ≡ goes_up turn }
 {
-    match turn {
-        Turn::Stay => false,
-        Turn::Forth => false,
-        Turn::Back => true,
-    }
+    turn == Turn::Back
 }

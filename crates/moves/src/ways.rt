@@ -5,31 +5,29 @@ ghost use Rattle.moves.specs.Moves as defined;
 ghost use Rattle.moves.specs.Inner.{went_by};
 
 use crate::steps::{code_step, goes_up, line_step};
-use crate::{Course, Pen, Step, Travel, Turn, Way};
+use crate::{Course, Pen, Travel, Turn, Way};
 use numbers::circles::term_sum;
 use parts::drawing::Drawing;
+use parts::shapes::Point;
 use rules::codes::{code_at, steps_of, stops};
-
-// The first turn in a read form, and otherwise the second.
-fn turn_in(read: bool, first: Turn, second: Turn) -> Turn
-    ensures { result ≡ choose read first second }
-{
-    if read { first } else { second }
-}
 
 // The way of one step of a line or code: a read form moves source and pattern by it and the destination to the right,
 // and any other the reverse.
-fn way_along(course: Course, step: Step, e: i32, drawing: Drawing) -> Way
-    ensures { result ≡ Way.Along (defined.source_by course step).x (defined.source_by course step).y
-        (defined.destination_by course step).x (defined.destination_by course step).y e drawing }
+fn way_along(course: Course, step: Point<Turn>, e: i32, drawing: Drawing) -> Way
+    ensures { result ≡ Way.Along (defined.source_by course step) (defined.destination_by course step) e drawing }
 {
-    let x = step.x;
-    let y = step.y;
+    let right = Point {
+        x: Turn::Forth,
+        y: Turn::Stay,
+    };
+    let (from, to) = if course.read {
+        (step, right)
+    } else {
+        (right, step)
+    };
     Way::Along {
-        from_x: turn_in(course.read, x, Turn::Forth),
-        from_y: turn_in(course.read, y, Turn::Stay),
-        to_x: turn_in(course.read, Turn::Forth, x),
-        to_y: turn_in(course.read, Turn::Stay, y),
+        from,
+        to,
         e,
         drawing,
     }
@@ -39,32 +37,24 @@ fn way_along(course: Course, step: Step, e: i32, drawing: Drawing) -> Way
 fn line_error(travel: Travel, e: i32) -> i32
     ensures { result ≡ defined.line_error travel e }
 {
-    if e < 0 {
-        term_sum(e, travel.k1)
-    } else {
-        term_sum(e, travel.k2)
-    }
+    term_sum(e, if e < 0 { travel.k1 } else { travel.k2 })
 }
 
 // Whether the step of a line sets its bit: it goes up a row, in an area boundary.
 fn rises(travel: Travel, e: i32) -> bool
     ensures { result ≡ defined.rises travel e }
 {
-    let course = travel.course;
-    let step = line_step(course, e);
-    let down = step.y;
-    course.bounds & goes_up(down)
+    travel.course.bounds & goes_up(line_step(travel.course, e).y)
 }
 
 // The way from a position of a line.
 fn line_way(travel: Travel, done: u16, pen: Pen) -> Way
     ensures { went_by travel result pen ≡ defined.line_moved travel done pen }
 {
-    let course = travel.course;
     if done < travel.figure.dimensions.x {
         way_along(
-            course,
-            line_step(course, pen.e),
+            travel.course,
+            line_step(travel.course, pen.e),
             line_error(travel, pen.e),
             Drawing::Line {
                 done: done + 1,
@@ -102,11 +92,10 @@ pub fn pass_code(steps: u32, count: u8, code: u16) -> Drawing
 fn code_way(travel: Travel, count: u8, code: u16, done: u16, pen: Pen) -> Way
     ensures { went_by travel result pen ≡ defined.codes_moved travel count code done pen }
 {
-    let course = travel.course;
     let current = code_at(travel.figure.steps, count, code);
     if done < steps_of(current) {
         way_along(
-            course,
+            travel.course,
             code_step(current),
             pen.e,
             Drawing::Codes {
@@ -160,15 +149,12 @@ fn block_way(travel: Travel, column: u16, row: u16, inside: bool, pen: Pen) -> W
 pub(crate) fn way_of(travel: Travel, inside: bool, pen: Pen) -> Way
     ensures { went_by travel result pen ≡ defined.moved travel (defined.pen_with (with_inside inside pen.drawing) pen) }
 {
-    let drawing = pen.drawing;
-    match drawing {
-        Drawing::Nothing { stopped: _ } => Way::Here { drawing },
-        Drawing::Line { done, rose: _ } => line_way(travel, done, pen),
+    match pen.drawing {
+        Drawing::Nothing { .. } => Way::Here {
+            drawing: pen.drawing,
+        },
+        Drawing::Line { done, .. } => line_way(travel, done, pen),
         Drawing::Codes { count, code, done } => code_way(travel, count, code, done, pen),
-        Drawing::Block {
-            inside: _,
-            column,
-            row,
-        } => block_way(travel, column, row, inside, pen),
+        Drawing::Block { column, row, .. } => block_way(travel, column, row, inside, pen),
     }
 }

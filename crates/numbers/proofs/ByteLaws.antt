@@ -3,19 +3,18 @@ use mathlib.Core.Path.{◌≡◌, refl, sym, ap, ◌∙◌}
 use mathlib.Core.Bool.{Bool, true, false}
 use mathlib.Core.List.{List, [], ◌∷◌}
 use Prim.Native.Nat.{ℕ, zero, suc, ◌+◌, ◌-◌, ◌*◌, ◌/◌, ◌%◌, ◌^◌, ◌≤◌, ◌<◌}
-use native.Mathlib.Nat.{div-eq_of_lt, lt_of_lt_of_le, pow-le-pow_right, pow-suc, add-zero, sub-zero, mod-mod, mod-one, one-le-pow, div-one, div-div-eq-div-mul}
-use native.Mathlib.Numerals.{add-one, add-two}
+use native.Mathlib.Nat.{div-eq_of_lt, lt_of_lt_of_le, pow-le-pow_right, pow-suc, add-zero, sub-zero, mod-one, one-le-pow, div-one, div-div-eq-div-mul}
 use native.Mathlib.Omega.{arith}
 use lib.Arith.{mod-mul}
 use lib.Dec.{lit<}
-use lib.Pow.{field, shr-shr, pow-add}
+use lib.Pow.{pow-add}
 use lib.ListN.{length, get_or, take, drop, set}
 use lib.Seq.{sets, drop-cons}
 use borrow.Author.Tests.{le-leb, lt-ltb}
 use Rattle.numbers.specs.Choose.{choose}
 use Rattle.numbers.specs.Bytes.{le, number_of, byte_of, covers, latched_bytes, latched}
 use Rattle.numbers.specs.declared.bytes.Write.{Write}
-use Rattle.numbers.proofs.Fields.{one_shl}
+use Rattle.std.proofs.lemmas.Nat.{one_shl}
 
 -- ---- one byte
 
@@ -99,8 +98,9 @@ pow_next i count some h =
     let more : count - (i - 1) ≡ suc (count - i) = omega arith in
     rw (more, pow-suc)
 
-pub pow_within : (i count : ℕ) → count ≤ 4 → 256 ^ (count - i) ≤ 2 ^ 32
-pow_within i count four = pow-le-pow_right (lit< {m = 0} {n = 256} tt) {j = 4} (omega arith)
+-- a number of count - i bytes has room for one more
+pub pow_within : (i count : ℕ) → 0 < i → i ≤ count → count ≤ 4 → 256 ^ (count - i) * 256 ≤ 2 ^ 32
+pow_within i count some h four = rw (← pow_next i count some h) (pow-le-pow_right (lit< {m = 0} {n = 256} tt) {j = 4} (omega arith))
 
 -- ---- what a register of n bytes takes from a write
 
@@ -108,27 +108,18 @@ pow_within i count four = pow-le-pow_right (lit< {m = 0} {n = 256} tt) {j = 4} (
 abbrev pub taken : Write → ℕ → ℕ → ℕ
 taken w at stored = choose (covers w at) (byte_of w.value (at - w.offset)) stored
 
-pub latched_one : (at : ℕ) (w : Write) (stored : ℕ) → stored < 256 → latched 1 at w stored ≡ taken w at stored
-unfolding latched latched_bytes number_of
-latched_one at w stored h =
-    let low : stored % 256 ≡ stored = omega arith in
-    rw low (omega arith)
-
-pub latched_two : (at : ℕ) (w : Write) (stored : ℕ) → stored < 65536
-    → latched 2 at w stored ≡ taken w at (stored % 256) + 256 * taken w (at + 1) (stored / 256)
-unfolding latched latched_bytes number_of
-latched_two at w stored h =
-    let high : stored / 256 % 256 ≡ stored / 256 = omega arith in
-    rw (high, add-one) (omega arith)
-
-pub latched_four : (at : ℕ) (w : Write) (stored : ℕ)
-    → latched 4 at w stored ≡ latched 2 at w (stored % 65536) + 65536 * latched 2 (at + 2) w (stored / 65536)
-unfolding latched latched_bytes number_of
-latched_four at w stored =
-    let first : stored % 65536 % 256 ≡ stored % 256 = omega arith in
-    let second : stored % 65536 / 256 % 256 ≡ stored / 256 % 256 = rw (field stored 8 8, mod-mod) in
-    let third : stored / 65536 ≡ stored / 256 / 256 = sym (shr-shr stored 8 8) in
-    rw (first, second, third, add-two) (omega arith)
+-- a byte more, below those that are latched
+pub latch_next : (bytes at i : ℕ) (w : Write) (stored : ℕ) → 0 < i → i ≤ bytes
+    → latched (bytes - i) (at + i) w (stored / 256 ^ i) * 256 + taken w (at + (i - 1)) (byte_of stored (i - 1))
+    ≡ latched (bytes - (i - 1)) (at + (i - 1)) w (stored / 256 ^ (i - 1))
+unfolding latched latched_bytes number_of byte_of
+latch_next bytes at zero w stored some h = elim some [ ]
+latch_next bytes at (suc j) w stored some h =
+    let more : bytes - (suc j - 1) ≡ suc (bytes - suc j) = omega arith in
+    let here : suc j - 1 ≡ j = omega arith in
+    let next : at + suc j ≡ suc (at + j) = omega arith in
+    let high : stored / 256 ^ suc j ≡ stored / 256 ^ j / 256 = rw (pow-suc, div-div-eq-div-mul) in
+    rw (more, here, next, high) (omega arith)
 
 pub latched_lt : (n at : ℕ) (w : Write) (stored : ℕ) → latched n at w stored < 256 ^ n
 unfolding latched latched_bytes number_of

@@ -2,19 +2,17 @@
 use mathlib.Core.Path.{◌≡◌, refl, sym, ap, ap₂, ◌∙◌}
 use mathlib.Core.Logic.{◌⊎◌, inl, inr}
 use Prim.Native.Nat.{ℕ, zero, suc, ◌+◌, ◌-◌, ◌*◌, ◌/◌, ◌%◌, ◌^◌, ◌≤◌, ◌<◌}
-use native.Mathlib.Nat.{le_trans, lt_of_lt_of_le, one-mul, zero-mul, suc-mul, zero-add, add-zero, mul_comm, mul_assoc, add-mul, mul-le-mul_right}
+use native.Mathlib.Nat.{le_trans, lt_of_lt_of_le, zero-mul, suc-mul, zero-add, add-zero, mul_comm, mul_assoc, add-mul, mul-le-mul_right}
 use native.Mathlib.Nat.{mod-lt, mod-le, mod-mod, mod-eq_of_lt, zero-mod, zero-div, div-one, div-mul-le_self, div-lt_iff_lt-mul}
 use native.Mathlib.Omega.{arith}
 use lib.Arith.{bin_ind}
 use lib.Bits.{bit_xor, differ, xor_zero_r, xor_lt, xor_step, xor_block}
 use lib.Pow as pow
 use lib.Pow.{pow_pos, pow_mono, pow-add, shl_lt, shl_exact, shr_lt, shr-shr, split, high, low, mod-mod-pow}
+pub use Rattle.std.proofs.lemmas.Nat.{one_shl}
 use Rattle.numbers.specs.Fields.{field, with_field}
 
 -- ---- shifts
-
-pub one_shl : (k w : ℕ) → k < w → 1 * 2 ^ k % 2 ^ w ≡ 2 ^ k
-one_shl k w h = shl_exact 1 k w (omega arith) (omega arith) ∙ one-mul (2 ^ k)
 
 pub low_shl_lt : (s n k v : ℕ) → s + n ≤ k → v % 2 ^ n * 2 ^ s < 2 ^ k
 low_shl_lt s n k v h = lt_of_lt_of_le (shl_lt n s (mod-lt v (pow_pos n))) (pow_mono (omega arith))

@@ -1,21 +1,21 @@
 -- A signed register and its bytes give each other back, over the width: what it reads back is the machine's own form of it.
-use mathlib.Core.Path.{◌≡◌, refl, ap, ◌∙◌}
+use mathlib.Core.Path.{◌≡◌, ap, ◌∙◌}
 use mathlib.Core.Bool.{true, ◌&&◌, and-eq-true_iff}
-use Prim.Native.Nat.{ℕ, zero, suc, ◌-◌, ◌^◌, ◌≤◌, ◌<◌}
-use native.Mathlib.Nat.{mod-eq_of_lt, zero-add, lt_of_lt_of_le, lt_of_le_of_lt}
+use Prim.Native.Nat.{ℕ, ◌^◌, ◌≤◌, ◌<◌}
+use native.Mathlib.Nat.{mod-eq_of_lt, lt_of_lt_of_le, lt_of_le_of_lt}
 use native.Mathlib.Omega.{arith}
 use lib.Dec.{leb}
-use lib.IntN.{ℤ, pos, negsuc, ◌-ℤ◌}
+use lib.IntN.{ℤ, pos, negsuc}
 use lib.Signed.{le_z, lt_z}
 use mir.Syntax.{Width}
 use mir.Val.{Fits, SFits, of_z, to_z, bits, hbits}
-use mir.ValLaws.{half_full, pow-bits, to_z_pos, to_z-of_z, of_z-to_z, to_z-Fits}
-use borrow.Author.Tests.{le-ltb, leb-true, ltb-true}
+use mir.ValLaws.{half_full, to_z-of_z, of_z-to_z, to_z-Fits}
+use borrow.Author.Tests.{leb-true, ltb-true}
 use Rattle.numbers.specs.Circles.{residue}
 
 -- ---- what a register reads back
 
-residue_bits : (w : Width) (z : ℤ) → SFits w z → residue (2 ^ bits w) z ≡ of_z w z
+pub residue_bits : (w : Width) (z : ℤ) → SFits w z → residue (2 ^ bits w) z ≡ of_z w z
 unfolding residue
 residue_bits w (pos n) f = mod-eq_of_lt (half_full w f.sfits)
 residue_bits w (negsuc n) f = rw (mod-eq_of_lt (half_full w {n = n} f.sfits)) (omega arith)
@@ -30,25 +30,6 @@ residue_signed w x f = residue_bits w (to_z w x) (to_z-Fits w x f) ∙ of_z-to_z
 pub between_fits : (w : Width) (l h : ℕ) → l < 2 ^ hbits w → h ≤ 2 ^ hbits w → (z : ℤ) → le_z (negsuc l) z && lt_z z (pos h) ≡ true → SFits w z
 between_fits w l h low high (pos n) e = record { sfits = lt_of_lt_of_le (ltb-true n h e) high }
 between_fits w l h low high (negsuc n) e = record { sfits = lt_of_le_of_lt (leb-true n l ((and-eq-true_iff (leb n l) true).0 e).0) low }
-
--- ---- bytes with the highest bit set, as the mirror of their distance from the top
-
-mirror_back : (n : ℕ) → negsuc 0 -ℤ pos n ≡ negsuc n
-mirror_back zero = refl
-mirror_back (suc n) = rw zero-add
-
-module _ (w : Width) (x : ℕ) (high : 2 ^ hbits w ≤ x) (fits : Fits w x) where
-  small : 2 ^ bits w - 1 - x < 2 ^ hbits w
-  small = omega (arith, pow-bits w, fits.fits)
-
-  mirrored : negsuc 0 -ℤ to_z w (2 ^ bits w - 1 - x) ≡ negsuc (2 ^ bits w - 1 - x)
-  mirrored = rw (to_z_pos w (2 ^ bits w - 1 - x) small, mirror_back)
-
-  pub mirror_fits : SFits w (negsuc 0 -ℤ to_z w (2 ^ bits w - 1 - x))
-  mirror_fits = rw mirrored (record { sfits = small })
-
-  pub mirror_signed : to_z w (of_z w (negsuc 0 -ℤ to_z w (2 ^ bits w - 1 - x))) ≡ to_z w x
-  mirror_signed = to_z-of_z w _ mirror_fits ∙ mirrored ∙ rw (le-ltb _ _ high) (ap negsuc (omega arith))
 
 -- ---- a signed field of a record, read from bytes
 

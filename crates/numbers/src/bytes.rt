@@ -1,4 +1,4 @@
-ghost use Rattle.std.specs.Prelude.{◌≡◌, ◌+◌, ◌-◌, ◌≤◌, ◌<◌, length, take, drop};
+ghost use Rattle.std.specs.Prelude.{◌≡◌, ◌+◌, ◌-◌, ◌^◌, ◌≤◌, ◌<◌, length, take, drop};
 ghost use Rattle.std.proofs.lemmas.List.Edits.{sets};
 ghost use Rattle.numbers.specs.Choose.{choose};
 ghost use Rattle.numbers.specs.Bytes.{le, number_of, byte_of, part_of, low, covers, latched};
@@ -15,12 +15,10 @@ pub struct Write {
 pub fn byte(x: u32, k: u32) -> u8
     ensures { result ≡ byte_of x k }
 {
-    match k {
-        0 => (x % 256) as u8,
-        1 => (x / 256 % 256) as u8,
-        2 => (x / 65536 % 256) as u8,
-        3 => (x / 16777216) as u8,
-        _ => 0,
+    if k < 4 {
+        ((x >> (8 * k)) % 256) as u8
+    } else {
+        0
     }
 }
 
@@ -33,6 +31,14 @@ pub fn part(x: u32, skip: u32, length: u32) -> u32
     (above % (1u64 << (8 * length))) as u32
 }
 
+// The largest number of so many bits.
+pub fn ones(bits: u32) -> u32
+    requires { bits < 32 }
+    ensures { result ≡ 2 ^ bits - 1 }
+{
+    (1 << bits) - 1
+}
+
 // The low bits of a byte, so many of them.
 pub fn low_bits(bits: u32, x: u8) -> u8
     requires { bits ≤ 8 }
@@ -41,7 +47,7 @@ pub fn low_bits(bits: u32, x: u8) -> u8
     (x as u32 % (1u32 << bits)) as u8
 }
 
-// The low 12 bits.
+// The low 12 bits, of a number of two bytes: by a constant, where `low_bits` shifts.
 pub fn twelve_bits(x: u32) -> u16
     ensures { result ≡ low 12 x }
 {
@@ -52,50 +58,25 @@ pub fn twelve_bits(x: u32) -> u16
 fn latch_byte(stored: u8, at: u32, w: Write) -> u8
     ensures { result ≡ choose (covers w at) (byte_of w.value (at - w.offset)) stored }
 {
-    let offset = w.offset;
-    let length = w.length;
-    let value = w.value;
-    if at < offset {
-        return stored;
+    if w.offset <= at && at - w.offset < w.length {
+        byte(w.value, at - w.offset)
+    } else {
+        stored
     }
-    let k = at - offset;
-    if length <= k {
-        return stored;
+}
+
+// What a register of so many bytes at offset `at` takes from a write, from its highest byte down. One copy of it serves all
+// registers: a write touches few.
+#[inline(never)]
+pub fn latch(bytes: u32, stored: u32, at: u8, w: Write) -> u32
+    requires { bytes ≤ 4 }
+    ensures { result ≡ latched bytes at w stored }
+{
+    let mut number: u32 = 0;
+    for k in (0..bytes).rev() {
+        number = number * 256 + latch_byte(byte(stored, k), at as u32 + k, w) as u32;
     }
-    byte(value, k)
-}
-
-// What a register of one byte at offset `at` takes from a write.
-pub fn latch1(stored: u8, at: u8, w: Write) -> u8
-    ensures { result ≡ latched 1 at w stored }
-{
-    latch_byte(stored, at as u32, w)
-}
-
-// The same for two bytes, wherever they start.
-fn latch_pair(stored: u16, at: u32, w: Write) -> u16
-    requires { at < 65536 }
-    ensures { result ≡ latched 2 at w stored }
-{
-    let low = latch_byte((stored % 256) as u8, at, w);
-    let high = latch_byte((stored / 256) as u8, at + 1, w);
-    low as u16 + 256 * high as u16
-}
-
-// What a register of two bytes takes from a write.
-pub fn latch2(stored: u16, at: u8, w: Write) -> u16
-    ensures { result ≡ latched 2 at w stored }
-{
-    latch_pair(stored, at as u32, w)
-}
-
-// What a register of four bytes takes from a write.
-pub fn latch4(stored: u32, at: u8, w: Write) -> u32
-    ensures { result ≡ latched 4 at w stored }
-{
-    let low = latch_pair((stored % 65536) as u16, at as u32, w);
-    let high = latch_pair((stored / 65536) as u16, at as u32 + 2, w);
-    low as u32 + 65536 * high as u32
+    number
 }
 
 // Lays the `count` low bytes of `value` into the buffer from `at` on.
@@ -103,12 +84,10 @@ pub fn store(buffer: &mut [u8], at: usize, count: usize, value: u32)
     requires { at + count ≤ length buffer.old }
     ensures { buffer.new ≡ sets buffer.old at (le count value) }
 {
-    let mut i = 0;
     let mut rest = value;
-    while i < count {
+    for i in 0..count {
         buffer[at + i] = (rest % 256) as u8;
-        rest = rest / 256;
-        i += 1;
+        rest /= 256;
     }
 }
 
@@ -117,11 +96,9 @@ pub fn fetch(buffer: &[u8], at: usize, count: usize) -> u32
     requires { (at + count ≤ length buffer.now) × (count ≤ 4) }
     ensures { result ≡ number_of (take count (drop at buffer.now)) }
 {
-    let mut i = count;
-    let mut number: u64 = 0;
-    while 0 < i {
-        i -= 1;
-        number = number * 256 + buffer[at + i] as u64;
+    let mut number: u32 = 0;
+    for i in (0..count).rev() {
+        number = number * 256 + buffer[at + i] as u32;
     }
-    number as u32
+    number
 }

@@ -3,7 +3,8 @@ ghost use Rattle.std.specs.Int.{w16, w32};
 ghost use Rattle.std.proofs.Common.{to_z};
 ghost use Rattle.numbers.specs.Circles.{forth, back, residue, circle};
 
-// A map's pointer runs from 0 to `last`, one less than the map's size.
+// A map's pointer runs from 0 to `last`, one less than the map's size. Forth and back have no line in common, so each has a
+// function, and a single step, unlike several, needs no division.
 
 // The remainder of a pointer by its map's size.
 pub fn remainder(x: u16, last: u16) -> u16
@@ -43,55 +44,50 @@ pub fn steps_back(x: u16, last: u16, count: u16) -> u16
     ((x as u32 + (size - count as u32 % size)) % size) as u16
 }
 
+// The library's casts, which it has for each width, as the registers' numbers.
+
 // The four bytes that a signed register reads back.
 pub fn word(z: i32) -> u32
     ensures { result ≡ residue (2 ^ 32) z }
 {
-    if z < 0 {
-        4294967295 - ((-1 - z) as u32)
-    } else {
-        z as u32
-    }
+    z.cast_unsigned()
 }
 
 // The two bytes that a signed register reads back.
 pub fn half_word(z: i16) -> u16
     ensures { result ≡ residue (2 ^ 16) z }
 {
-    if z < 0 {
-        65535 - ((-1 - z) as u16)
-    } else {
-        z as u16
-    }
+    z.cast_unsigned()
 }
 
 // The signed number of four bytes.
 pub fn signed_word(x: u32) -> i32
     ensures { result ≡ to_z w32 x }
 {
-    if x < 2147483648 {
-        x as i32
-    } else {
-        -1 - ((4294967295 - x) as i32)
-    }
+    x.cast_signed()
 }
 
 // The signed number of two bytes.
 pub fn signed_half(x: u16) -> i16
     ensures { result ≡ to_z w16 x }
 {
-    if x < 32768 {
-        x as i16
-    } else {
-        -1 - ((65535 - x) as i16)
-    }
+    x.cast_signed()
+}
+
+// A number's place on a circle of so many numbers, of which the lowest is so far below 0. Both are constants, so that no
+// division is by a variable.
+fn onto<const BELOW: u32, const SIZE: u32>(x: u32) -> i32
+    requires { (0 < SIZE) × (BELOW + SIZE < 2 ^ 31) }
+    ensures { result ≡ circle BELOW SIZE (pos x) }
+{
+    ((x % SIZE + BELOW) % SIZE) as i32 - BELOW as i32
 }
 
 // E, K1 or K2 as the four written bytes leave it.
 pub fn term(x: u32) -> i32
     ensures { result ≡ circle 8192 16384 (pos x) }
 {
-    ((x % 16384 + 8192) % 16384) as i32 - 8192
+    onto::<8192, 16384>(x)
 }
 
 // The sum of two terms, reduced as in a write.
@@ -105,7 +101,7 @@ pub fn term_sum(e: i32, k: i32) -> i32
 pub fn destination(x: u32) -> i16
     ensures { result ≡ circle 2048 8192 (pos x) }
 {
-    ((x % 8192 + 2048) % 8192) as i16 - 2048
+    onto::<2048, 8192>(x) as i16
 }
 
 // `count` steps forth on the destination's circle: past 6,143 comes -2,048.

@@ -8,7 +8,6 @@ use Rattle.numbers.specs.declared.bytes.Write.{Write}
 use Rattle.pixels.specs.declared.Map.{Map}
 use Rattle.parts.specs.declared.shapes.Terms.{Terms}
 use Rattle.parts.specs.declared.shapes.Point.{Point}
-use Rattle.parts.specs.declared.shapes.Spot.{Spot}
 use Rattle.parts.specs.declared.shapes.Colours.{Colours}
 use Rattle.parts.specs.declared.shapes.Figure.{Figure}
 use Rattle.parts.specs.declared.shapes.Pointers.{Pointers}
@@ -97,7 +96,7 @@ colours_latched_reduced : (w : Write) (c : Colours) → colours_reduced c ≡ tr
 unfolding colours_reduced colours_latched compare_latched
 colours_latched_reduced w c = low_taken_reduced 3 1 0x4A w c.compare.condition
 
-point_latched_reduced : (at : ℕ) (w : Write) (p : Point) → point_reduced p ≡ true → point_reduced (point_latched (twelve at) (twelve (at + 2)) w p) ≡ true
+point_latched_reduced : (at : ℕ) (w : Write) (p : Point ℕ) → point_reduced p ≡ true → point_reduced (point_latched (twelve at) (twelve (at + 2)) w p) ≡ true
 unfolding point_reduced point_latched
 point_latched_reduced at w p = both_kept (low_taken_reduced 12 2 at w p.x) (low_taken_reduced 12 2 (at + 2) w p.y)
 
@@ -105,7 +104,7 @@ figure_latched_reduced : (w : Write) (f : Figure) → figure_reduced f ≡ true 
 unfolding figure_reduced figure_latched
 figure_latched_reduced w f = both_kept (point_latched_reduced 0x60 w f.dimensions) (point_latched_reduced 0x6C w f.origin)
 
-spot_latched_reduced : (w : Write) (s : Spot) → spot_reduced s ≡ true → spot_reduced (spot_latched w s) ≡ true
+spot_latched_reduced : (w : Write) (s : Point ℤ) → spot_reduced s ≡ true → spot_reduced (spot_latched w s) ≡ true
 unfolding spot_reduced spot_latched
 spot_latched_reduced w s = both_kept (destination_taken_reduced 0x78 w s.x) (destination_taken_reduced 0x7A w s.y)
 

@@ -1,5 +1,5 @@
 -- The laws of a register in a write: one that the write does not touch stays, since none of its bytes is covered, and any stays below its bound.
-use mathlib.Core.Path.{◌≡◌, refl, ◌∙◌}
+use mathlib.Core.Path.{◌≡◌, refl, ◌∙◌, subst}
 use mathlib.Core.Bool.{Bool, true, false, true≢false, and-eq-true_iff}
 use mathlib.Core.Logic.{⊎_elim}
 use Prim.Native.Nat.{ℕ, ◌+◌, ◌-◌, ◌^◌, ◌≤◌, ◌<◌}
@@ -9,9 +9,12 @@ use lib.Dec.{leb, ltb}
 use lib.IntN.{ℤ}
 use lib.Pow.{pow_pos}
 use borrow.Author.Tests.{leb-true, ltb-true, le-leb, lt-leb, lt-ltb, le-ltb}
-use Rattle.numbers.specs.Bytes.{covers, latched}
+use Rattle.std.specs.Prelude.{Option, Some, None}
+use Rattle.std.specs.Option.{MatchOption}
+use Rattle.numbers.specs.Bytes.{byte_of, covers, latched}
 use Rattle.numbers.specs.declared.bytes.Write.{Write}
 use Rattle.numbers.proofs.ByteLaws.{latched_lt, latched_uncovered}
+use Rattle.numbers.specs.Choose.{choose}
 use Rattle.numbers.proofs.Choices.{choose_either}
 use Rattle.numbers.proofs.Order.{lt_or_le}
 use Rattle.parts.specs.Registers.{Register, whole, low_bits}
@@ -79,6 +82,17 @@ module _ (n at : ℕ) (w : Write) (apart : touched n at w ≡ false) (r : Regist
   pub onto_untouched : (z : ℤ) → taken_onto r w z ≡ z
   unfolding taken_onto
   onto_untouched z = rw part_untouched
+
+-- ---- a register by what `take` hands on: nothing, or a number that is then reduced
+
+pub taken_by : {A : Type 0} (t : Bool) (x : ℕ) (o : Option ℕ) (stored reduced result : A) (Q : ℕ → Type 0)
+    → o ≡ choose t (Some x) None → MatchOption o (result ≡ stored) Q → (Q x → result ≡ reduced) → result ≡ choose t reduced stored
+taken_by true x o stored reduced result Q e m by = by (let P : Option ℕ → Type 0 = λ p. MatchOption p (result ≡ stored) Q in subst P e m)
+taken_by false x o stored reduced result Q e m by = let P : Option ℕ → Type 0 = λ p. MatchOption p (result ≡ stored) Q in subst P e m
+
+pub byte_latched : (at : ℕ) (w : Write) (stored : ℕ) → byte_of (latched 1 at w stored) 0 ≡ latched 1 at w stored
+unfolding byte_of
+byte_latched at w stored = omega (arith, latched_lt 1 at w stored)
 
 -- ---- a register after any write
 

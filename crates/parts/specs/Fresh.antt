@@ -1,5 +1,5 @@
 -- The registers of a fresh state.
-use Rattle.std.specs.Prelude.{pos}
+use Rattle.std.specs.Prelude.{ℕ, pos}
 use Rattle.parts.specs.declared.shapes.Ink.{Ink}
 use Rattle.parts.specs.declared.shapes.Point.{Point}
 use Rattle.parts.specs.declared.shapes.Registers.{Registers}
@@ -9,7 +9,7 @@ abbrev pub no_ink : Ink
 no_ink = record { mix = 0; colour = 0 }
 
 -- 01, Registers: dimensions, origin and pointers of a fresh state
-abbrev pub no_point : Point
+abbrev pub no_point : Point ℕ
 no_point = record { x = 0; y = 0 }
 
 -- 01, Registers: all registers of a fresh state are zero

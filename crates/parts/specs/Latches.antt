@@ -1,11 +1,11 @@
 -- What each group of registers is after a write, register by register.
+use Rattle.std.specs.Prelude.{ℕ, ℤ}
 use Rattle.numbers.specs.declared.bytes.Write.{Write}
 use Rattle.pixels.specs.declared.Map.{Map}
 use Rattle.parts.specs.declared.shapes.Terms.{Terms}
 use Rattle.parts.specs.declared.shapes.Ink.{Ink}
 use Rattle.parts.specs.declared.shapes.Compare.{Compare}
 use Rattle.parts.specs.declared.shapes.Point.{Point}
-use Rattle.parts.specs.declared.shapes.Spot.{Spot}
 use Rattle.parts.specs.declared.shapes.Colours.{Colours}
 use Rattle.parts.specs.declared.shapes.Figure.{Figure}
 use Rattle.parts.specs.declared.shapes.Pointers.{Pointers}
@@ -43,11 +43,11 @@ compare_latched w c =
     record { condition = taken table.compare_condition w c.condition; value = taken table.compare_value w c.value }
 
 -- 01, Registers: two registers of a pair
-unfoldable pub point_latched : (x y : Register) → Write → Point → Point
+unfoldable pub point_latched : (x y : Register) → Write → Point ℕ → Point ℕ
 point_latched x y w p = record { x = taken x w p.x; y = taken y w p.y }
 
 -- 01, Registers: destination X and Y
-unfoldable pub spot_latched : Write → Spot → Spot
+unfoldable pub spot_latched : Write → Point ℤ → Point ℤ
 spot_latched w s = record { x = taken_onto table.destination_x w s.x; y = taken_onto table.destination_y w s.y }
 
 -- 01, Registers: mixes, colours, compare, plane mask and carry mask

@@ -4,7 +4,6 @@ use Rattle.std.specs.Int.Signed.{le_z, lt_z}
 use Rattle.pixels.specs.declared.Map.{Map}
 use Rattle.parts.specs.declared.shapes.Terms.{Terms}
 use Rattle.parts.specs.declared.shapes.Point.{Point}
-use Rattle.parts.specs.declared.shapes.Spot.{Spot}
 use Rattle.parts.specs.declared.shapes.Colours.{Colours}
 use Rattle.parts.specs.declared.shapes.Figure.{Figure}
 use Rattle.parts.specs.declared.shapes.Pointers.{Pointers}
@@ -49,7 +48,7 @@ unfoldable pub colours_reduced : Colours → Bool
 colours_reduced c = fits table.compare_condition c.compare.condition
 
 -- 01, Registers: dimensions, mask origin, source and pattern pointers have 12 bits
-unfoldable pub point_reduced : Point → Bool
+unfoldable pub point_reduced : Point ℕ → Bool
 point_reduced p = fits (table.twelve 0) p.x && fits (table.twelve 0) p.y
 
 -- 01, Registers: dimensions and mask origin
@@ -61,7 +60,7 @@ unfoldable pub destination_reduced : ℤ → Bool
 destination_reduced z = lies (table.coordinate 0) z
 
 -- 01, Registers: destination X and Y
-unfoldable pub spot_reduced : Spot → Bool
+unfoldable pub spot_reduced : Point ℤ → Bool
 spot_reduced s = destination_reduced s.x && destination_reduced s.y
 
 -- 01, Registers: source and pattern pointers of 12 bits, destination pointers on their circle

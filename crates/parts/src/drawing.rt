@@ -15,22 +15,13 @@ pub enum Drawing {
 pub fn is_unfinished(drawing: Drawing) -> bool
     ensures { result ≡ unfinished drawing }
 {
-    match drawing {
-        Drawing::Nothing { .. } => false,
-        Drawing::Line { .. } => true,
-        Drawing::Codes { .. } => true,
-        Drawing::Block { .. } => true,
-    }
+    !matches!(drawing, Drawing::Nothing { .. })
 }
 
 // Whether an area fill is inside.
+#[tactic(auto, unfolding(crate::specs::Drawings::inside_of))]
 pub fn is_inside(drawing: Drawing) -> bool
     ensures { result ≡ inside_of drawing }
 {
-    match drawing {
-        Drawing::Nothing { .. } => false,
-        Drawing::Line { .. } => false,
-        Drawing::Codes { .. } => false,
-        Drawing::Block { inside, .. } => inside,
-    }
+    matches!(drawing, Drawing::Block { inside: true, .. })
 }

@@ -4,7 +4,7 @@ ghost use Rattle.std.specs.Prelude.{◌≡◌, ◌+◌, ◌≤◌};
 ghost use Rattle.parts.specs.Registers.{whole, twelve};
 ghost use Rattle.parts.specs.Latches as defined;
 
-use crate::shapes::{Colours, Compare, Figure, Ink, Point, Pointers, Registers, Spot, Terms};
+use crate::shapes::{Colours, Compare, Figure, Ink, Point, Pointers, Registers, Terms};
 use crate::takes::{
     take_bits, take_byte, take_destination, take_term, take_twelve_bits, take_word, touches,
 };
@@ -110,8 +110,9 @@ fn latch_compare(compare: Compare, w: Write) -> Compare
     }
 }
 
-// Two numbers of 12 bits, the first at `at` and the second two bytes on.
-fn latch_point(point: Point, at: u8, w: Write) -> Point
+// Two numbers of 12 bits, the first at `at` and the second two bytes on. The destination's goes by itself: the definitions take the one by
+// `taken` and the other by `taken_onto`.
+fn latch_point(point: Point<u16>, at: u8, w: Write) -> Point<u16>
     requires { at ≤ 125 }
     ensures { result ≡ defined.point_latched (twelve at) (twelve (at + 2)) w point }
 {
@@ -122,10 +123,10 @@ fn latch_point(point: Point, at: u8, w: Write) -> Point
 }
 
 // The destination pointer.
-fn latch_spot(spot: Spot, w: Write) -> Spot
+fn latch_spot(spot: Point<i16>, w: Write) -> Point<i16>
     ensures { result ≡ defined.spot_latched w spot }
 {
-    Spot {
+    Point {
         x: take_destination(spot.x, DESTINATION_X, w),
         y: take_destination(spot.y, DESTINATION_Y, w),
     }
@@ -136,13 +137,10 @@ fn latch_colours(colours: Colours, w: Write) -> Colours
     ensures { result ≡ defined.colours_latched w colours }
 {
     if touches(24, FOREGROUND_MIX, w) {
-        let foreground = colours.foreground;
-        let background = colours.background;
-        let compare = colours.compare;
         Colours {
-            foreground: latch_ink(foreground, FOREGROUND_MIX, FOREGROUND_COLOUR, w),
-            background: latch_ink(background, BACKGROUND_MIX, BACKGROUND_COLOUR, w),
-            compare: latch_compare(compare, w),
+            foreground: latch_ink(colours.foreground, FOREGROUND_MIX, FOREGROUND_COLOUR, w),
+            background: latch_ink(colours.background, BACKGROUND_MIX, BACKGROUND_COLOUR, w),
+            compare: latch_compare(colours.compare, w),
             planes: take_word(colours.planes, PLANES, w),
             carries: take_word(colours.carries, CARRIES, w),
         }
@@ -155,13 +153,11 @@ fn latch_colours(colours: Colours, w: Write) -> Colours
 fn latch_figure(figure: Figure, w: Write) -> Figure
     ensures { result ≡ defined.figure_latched w figure }
 {
-    let dimensions = figure.dimensions;
-    let origin = figure.origin;
     Figure {
         operations: take_word(figure.operations, OPERATIONS, w),
         steps: take_word(figure.steps, STEPS, w),
-        dimensions: latch_point(dimensions, DIMENSIONS, w),
-        origin: latch_point(origin, ORIGIN, w),
+        dimensions: latch_point(figure.dimensions, DIMENSIONS, w),
+        origin: latch_point(figure.origin, ORIGIN, w),
     }
 }
 
@@ -170,13 +166,10 @@ fn latch_pointers(pointers: Pointers, w: Write) -> Pointers
     ensures { result ≡ defined.pointers_latched w pointers }
 {
     if touches(12, SOURCE, w) {
-        let source = pointers.source;
-        let pattern = pointers.pattern;
-        let destination = pointers.destination;
         Pointers {
-            source: latch_point(source, SOURCE, w),
-            pattern: latch_point(pattern, PATTERN, w),
-            destination: latch_spot(destination, w),
+            source: latch_point(pointers.source, SOURCE, w),
+            pattern: latch_point(pointers.pattern, PATTERN, w),
+            destination: latch_spot(pointers.destination, w),
         }
     } else {
         pointers
@@ -187,15 +180,11 @@ fn latch_pointers(pointers: Pointers, w: Write) -> Pointers
 pub fn latch_registers(registers: Registers, w: Write) -> Registers
     ensures { result ≡ defined.registers_latched w registers }
 {
-    let terms = registers.terms;
-    let colours = registers.colours;
-    let figure = registers.figure;
-    let pointers = registers.pointers;
     Registers {
         index: take_bits(2, registers.index, MAP_INDEX, w),
-        terms: latch_terms(terms, w),
-        colours: latch_colours(colours, w),
-        figure: latch_figure(figure, w),
-        pointers: latch_pointers(pointers, w),
+        terms: latch_terms(registers.terms, w),
+        colours: latch_colours(registers.colours, w),
+        figure: latch_figure(registers.figure, w),
+        pointers: latch_pointers(registers.pointers, w),
     }
 }

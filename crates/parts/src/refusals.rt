@@ -1,44 +1,27 @@
 ghost use Rattle.std.specs.Prelude.{◌≡◌};
-ghost use Rattle.parts.specs.Refusals.{refusal_number, is_accepted};
+ghost use Rattle.parts.specs.Refusals.{refusal_number};
 
-// The answers by number, in the paper's order; `Accepted` is no refusal.
-#[derive(Clone, Copy)]
+// What a call may refuse, by the paper's number.
+#[derive(Clone, Copy, PartialEq, Eq)]
 pub enum Refusal {
-    Accepted,
-    Place,
-    Unfinished,
-    Unlisted,
-    Function,
-    Fields,
-    Mixes,
-    Formats,
-    Ends,
-    Size,
-    Image,
+    Place = 1,
+    Unfinished = 2,
+    Unlisted = 3,
+    Function = 4,
+    Fields = 5,
+    Mixes = 6,
+    Formats = 7,
+    Ends = 8,
+    Size = 9,
+    Image = 10,
 }
 
-// The number that a call answers with.
-pub fn number(refusal: Refusal) -> u32
-    ensures { result ≡ refusal_number refusal }
+// The number that a call answers with, 0 where it is accepted.
+pub fn number(outcome: Result<(), Refusal>) -> u32
+    ensures { result ≡ refusal_number outcome }
 {
-    match refusal {
-        Refusal::Accepted => 0,
-        Refusal::Place => 1,
-        Refusal::Unfinished => 2,
-        Refusal::Unlisted => 3,
-        Refusal::Function => 4,
-        Refusal::Fields => 5,
-        Refusal::Mixes => 6,
-        Refusal::Formats => 7,
-        Refusal::Ends => 8,
-        Refusal::Size => 9,
-        Refusal::Image => 10,
+    match outcome {
+        Ok(()) => 0,
+        Err(refusal) => refusal as u32,
     }
-}
-
-// Whether the call is accepted.
-pub fn accepts(refusal: Refusal) -> bool
-    ensures { result ≡ is_accepted refusal }
-{
-    number(refusal) == 0
 }

@@ -3,6 +3,8 @@
 ghost use Rattle.std.specs.Prelude.{◌≡◌, ◌-◌, ◌/◌, ◌%◌, ◌^◌, ◌≤◌, ◌<◌, eqb};
 ghost use Rattle.parts.specs.Registers.{listed, placed};
 
+use numbers::bytes::ones;
+
 // The largest offset.
 const LAST: u32 = 0x7F;
 
@@ -16,6 +18,7 @@ const SECOND_HALF: u64 = 0xFFFF_F00F_FFFF_F700;
 pub fn is_placed(offset: u32, length: u32) -> bool
     ensures { result ≡ placed offset length }
 {
+    // The length is a number of bytes, and no kind; each asks for its own multiple, so that no division is by a variable.
     match length {
         1 => offset <= LAST,
         2 => (offset % 2 == 0) & (offset <= LAST),
@@ -29,7 +32,7 @@ fn all_set(bits: u64, from: u32, count: u32) -> bool
     requires { (from < 64) × (count ≤ 4) }
     ensures { result ≡ eqb (bits / 2 ^ from % 2 ^ count) (2 ^ count - 1) }
 {
-    let ones = (1u64 << count) - 1;
+    let ones = ones(count) as u64;
     (bits >> from) & ones == ones
 }
 

@@ -8,6 +8,8 @@ ghost use Rattle.pixels.specs.Maps.{bits_of, place_of, is_motorola, shift_of, ne
 ghost use Rattle.pixels.specs.Pixels.{pixel_at, with_pixel};
 ghost use Rattle.pixels.specs.Inner.{place_at, shift_at, cell_at};
 
+use numbers::bytes::ones;
+
 // A pixel map: where it starts, one less than its width and height in pixels, and its format code.
 #[derive(Clone, Copy)]
 pub struct Map {
@@ -17,7 +19,8 @@ pub struct Map {
     pub format: u8,
 }
 
-// A pixel's bits in its byte: the byte's index, what it holds, and how far up and how many the bits are.
+// A pixel's bits in its byte: the byte's index, what it holds, and how far up and how many the bits are. That they lie within the
+// byte stands in the clauses: as a part of the type, the definition `cell_at` would carry its proof.
 #[derive(Clone, Copy)]
 pub struct Cell {
     pub at: usize,
@@ -42,7 +45,8 @@ pub fn needed(map: Map) -> u64
     (row * rows * (bits_of(map.format) as u64) + 7) / 8
 }
 
-// How many pixels of the map come before this one: its number.
+// How many pixels of the map come before this one: its number. A map and its two numbers are handed in apart, as C does: the
+// numbers are any, inside the map or not.
 pub fn index(map: Map, x: u16, y: u16) -> u32
     ensures { result ≡ y * (map.width + 1) + x }
 {
@@ -63,19 +67,25 @@ pub fn place(map: Map, x: u16, y: u16) -> usize
     place_at(map.format, map.base, index(map, x, y))
 }
 
+// Whether the format's order bit is Motorola order.
+pub fn is_motorola(format: u8) -> bool
+    ensures { result ≡ is_motorola format }
+{
+    format / 8 % 2 == 1
+}
+
 // What turns over the number of a pixel within its byte: all bits in Motorola order, and none in Intel order.
 fn mirror(format: u8) -> u32
     ensures { result ≡ choose (is_motorola format) (2 ^ 32 - 1) 0 }
 {
-    if format / 8 % 2 == 1 { 0xFFFF_FFFF } else { 0 }
+    if is_motorola(format) { 0xFFFF_FFFF } else { 0 }
 }
 
 // How far above its byte's lowest bit pixel number n of a map lies.
 pub fn shift_at(format: u8, n: u32) -> u32
     ensures { result ≡ shift_at format n }
 {
-    let turned = mirror(format);
-    ((n ^ turned) << (format % 4)) & 7
+    ((n ^ mirror(format)) << (format % 4)) & 7
 }
 
 // How far above its byte's lowest bit the pixel lies.
@@ -83,32 +93,6 @@ fn shift(map: Map, x: u16, y: u16) -> u32
     ensures { result ≡ shift_of map x y }
 {
     shift_at(map.format, index(map, x, y))
-}
-
-// The largest number of so many bits.
-fn mask(bits: u32) -> u32
-    requires { bits ≤ 8 }
-    ensures { result ≡ 2 ^ bits - 1 }
-{
-    (1 << bits) - 1
-}
-
-// The bits of a byte from a shift on.
-fn taken(byte: u8, shift: u32, bits: u32) -> u32
-    requires { shift + bits ≤ 8 }
-    ensures { result ≡ field shift bits byte }
-{
-    ((byte as u32) >> shift) & mask(bits)
-}
-
-// A byte with other bits from a shift on: those change in which the old ones and the low bits of value differ.
-fn replaced(byte: u8, shift: u32, bits: u32, value: u32) -> u8
-    requires { shift + bits ≤ 8 }
-    ensures { result ≡ with_field shift bits value byte }
-{
-    let old = taken(byte, shift, bits);
-    let new = value & mask(bits);
-    ((byte as u32) ^ ((old ^ new) << shift)) as u8
 }
 
 // The pixel's bits in its byte, which lies in the memory.
@@ -131,7 +115,16 @@ pub fn value(cell: Cell) -> u32
     requires { cell.shift + cell.bits ≤ 8 }
     ensures { result ≡ field cell.shift cell.bits cell.byte }
 {
-    taken(cell.byte, cell.shift, cell.bits)
+    ((cell.byte as u32) >> cell.shift) & ones(cell.bits)
+}
+
+// The cell's byte with another pixel: the bits change in which the old one and the low bits of the new one differ.
+fn replaced(cell: Cell, new: u32) -> u8
+    requires { cell.shift + cell.bits ≤ 8 }
+    ensures { result ≡ with_field cell.shift cell.bits new cell.byte }
+{
+    let changed = value(cell) ^ (new & ones(cell.bits));
+    ((cell.byte as u32) ^ (changed << cell.shift)) as u8
 }
 
 // Stores the low bits of value as the pixel of the cell.
@@ -139,8 +132,7 @@ pub fn store(memory: &mut [u8], cell: Cell, value: u32)
     requires { (cell.shift + cell.bits ≤ 8) × (cell.at < length memory.old) }
     ensures { memory.new ≡ set memory.old cell.at (with_field cell.shift cell.bits value cell.byte) }
 {
-    let at = cell.at;
-    memory[at] = replaced(cell.byte, cell.shift, cell.bits, value);
+    memory[cell.at] = replaced(cell, value);
 }
 
 // The pixel, which lies in the memory.
@@ -156,6 +148,5 @@ pub fn put(memory: &mut [u8], map: Map, x: u16, y: u16, value: u32)
     requires { place_of map x y < length memory.old }
     ensures { memory.new ≡ with_pixel memory.old map x y value }
 {
-    let cell = find(memory, map, x, y);
-    store(memory, cell, value);
+    store(memory, find(memory, map, x, y), value);
 }

@@ -1,16 +1,16 @@
 -- A destination's place from an origin, as the machine has it: 32 bits hold it by the signs, and where it is not below 0 it is a column of 16 bits.
-use mathlib.Core.Path.{◌≡◌, refl, ap}
-use mathlib.Core.Bool.{true, false, ◌&&◌, false≢true}
-use Prim.Native.Nat.{ℕ, zero, suc, ◌+◌, ◌^◌, ◌≤◌, ◌<◌}
+use mathlib.Core.Path.{◌≡◌, refl}
+use mathlib.Core.Bool.{true, ◌&&◌, false≢true}
+use Prim.Native.Nat.{ℕ, zero, suc, ◌+◌, ◌≤◌}
 use native.Mathlib.Omega.{arith}
 use lib.IntN.{ℤ, pos, negsuc, ◌-ℤ◌, +ℤ_idr}
-use lib.Signed.{mag, le_z, lt_z}
+use lib.Signed.{mag, le_z}
 use mir.Syntax.{w16, w32}
 use mir.Val.{Fits, SFits, of_z, to_z}
 use mir.ValLaws.{to_z-of_z, to_z_pos}
+use Rattle.std.specs.Int.{int_max}
 use borrow.Author.Tests.{leb-true, le-leb}
-use Rattle.numbers.proofs.CircleLaws.{sub_cases}
-use Rattle.numbers.proofs.SignedLaws.{mag_sub, negative, natural}
+use Rattle.numbers.proofs.SignedLaws.{mag_sub}
 use Rattle.places.specs.Places.{is_within, column_of}
 
 -- a place is within where it is at least 0 and at most the last
@@ -35,18 +35,18 @@ within_place last (negsuc n) e = absurd (false≢true e)
 pub widened : {z : ℤ} → SFits w16 z → SFits w32 z
 widened f = record { sfits = omega (arith, f.sfits) }
 
+-- the greater of a place and 0 is its column
+pub raised : (z : ℤ) → int_max z (pos 0) ≡ pos (column_of z)
+unfolding column_of
+raised (pos zero) = refl
+raised (pos (suc n)) = rw (le-leb 1 (suc n) (omega arith))
+raised (negsuc n) = refl
+
 mag_less : (z : ℤ) (origin : ℕ) → mag (z -ℤ pos origin) ≤ suc (mag z) + origin
 mag_less (pos n) zero = omega arith
 mag_less (pos n) (suc origin) = omega (arith, mag_sub n (suc origin))
 mag_less (negsuc n) zero = rw (+ℤ_idr (negsuc n)) (omega arith)
 mag_less (negsuc n) (suc origin) = omega arith
-
-column_le : (z : ℤ) (origin : ℕ) → column_of (z -ℤ pos origin) ≤ mag z
-unfolding column_of
-column_le (pos n) zero = omega arith
-column_le (pos n) (suc origin) = sub_cases (λ (z : ℤ). column_of z ≤ n) n (suc origin) (λ h. omega arith) (λ h. omega arith)
-column_le (negsuc n) zero = rw (+ℤ_idr (negsuc n)) (omega arith)
-column_le (negsuc n) (suc origin) = omega arith
 
 -- a destination less an origin, in 32 bits
 abbrev difference : ℤ → ℕ → ℤ
@@ -66,16 +66,3 @@ module _ {z : ℤ} {origin : ℕ} (f : SFits w16 z) (h : Fits w16 origin) where
   -- the same of what a call answers that is given the destination in 16 bits
   pub answered : {p : ℤ} → p ≡ to_z w16 (of_z w16 z) -ℤ pos origin → to_z w32 (of_z w32 p) ≡ z -ℤ pos origin
   answered e = read_back (rw (to_z-of_z w16 z f) at e)
-
-  -- what that says below 0, and otherwise
-  pub below : {p : ℤ} → p ≡ to_z w16 (of_z w16 z) -ℤ pos origin → lt_z (to_z w32 (of_z w32 p)) (pos 0) ≡ true
-      → z -ℤ pos origin ≡ negsuc (mag (z -ℤ pos origin))
-  below e t = negative (z -ℤ pos origin) (rw (answered e) at t)
-
-  pub natural_from : {p : ℤ} → p ≡ to_z w16 (of_z w16 z) -ℤ pos origin → lt_z (to_z w32 (of_z w32 p)) (pos 0) ≡ false
-      → z -ℤ pos origin ≡ pos (mag (z -ℤ pos origin))
-  natural_from e t = natural (z -ℤ pos origin) (rw (answered e) at t)
-
-  pub column_fits : z -ℤ pos origin ≡ pos (mag (z -ℤ pos origin)) → mag (z -ℤ pos origin) < 2 ^ 16
-  unfolding column_of
-  column_fits e = omega (arith, ap column_of e, column_le z origin, f.sfits)

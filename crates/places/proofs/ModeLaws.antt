@@ -1,44 +1,47 @@
--- What move codes and the drawing mode hold back: of a mode's three tests one is left, or none, and a move is told by the code that is drawn.
+-- What move codes and the drawing mode hold back: no mode leaves out a block, and a move is told by the code that is drawn.
 use mathlib.Core.Path.{◌≡◌, refl}
-use mathlib.Core.Bool.{Bool, true, false, ◌&&◌, ◌||◌}
+use mathlib.Core.Bool.{Bool, true, false, false≢true}
 use Prim.Native.Nat.{ℕ}
 use lib.Dec.{eqb}
-use borrow.Author.Tests.{ne_eqb}
+use Rattle.numbers.specs.Choose.{choose}
 use Rattle.parts.specs.declared.drawing.Drawing.{Drawing}
 use Rattle.parts.specs.declared.drawing.Drawing.TheVariants.{Nothing, Line, Codes, Block}
 use Rattle.moves.specs.declared.Travel.{Travel}
-use Rattle.places.specs.Places.{is_move}
+use Rattle.places.specs.declared.MaskMode.{MaskMode}
+use Rattle.places.specs.declared.MaskMode.TheVariants.{Disabled, Boundary, Enabled}
+use Rattle.places.specs.declared.Mode.{Mode}
+use Rattle.places.specs.declared.Mode.TheVariants.{AllPixels, FirstNull, LastNull, AreaBoundary}
+use Rattle.places.specs.Decoded.{named_mask}
+use Rattle.places.specs.Places.{is_enabled, is_all, is_move, left_out}
 use Rattle.places.specs.Inner.{code_in, moves_by}
 
--- what first null, last null and an area boundary leave out
-abbrev left : ℕ → Bool → Bool → Bool → Bool
-left mode first last kept = (eqb mode 1 && first) || (eqb mode 2 && last) || (eqb mode 3 && kept)
-
-module _ (mode : ℕ) where
-  pub first_null : (first last kept : Bool) → mode ≡ 1 → left mode first last kept ≡ first
-  first_null true last kept e = rw e
-  first_null false last kept e = rw e
-
-  pub last_null : (first last kept : Bool) → mode ≡ 2 → left mode first last kept ≡ last
-  last_null first true kept e = rw e
-  last_null first false kept e = rw e
-
-  pub boundary_null : (first last kept : Bool) → mode ≡ 3 → left mode first last kept ≡ kept
-  boundary_null first last kept e = rw e
-
-  pub no_null : (first last kept : Bool) → (mode ≡ 1 → ⊥) → (mode ≡ 2 → ⊥) → (mode ≡ 3 → ⊥) → left mode first last kept ≡ false
-  no_null first last kept one two three = rw (ne_eqb mode 1 one, ne_eqb mode 2 two, ne_eqb mode 3 three)
-
 -- a block is left out by none of them
-pub none_left : (one two three : Bool) → ((one && false) || (two && false) || (three && false)) ≡ false
-none_left true true true = refl
-none_left true true false = refl
-none_left true false true = refl
-none_left true false false = refl
-none_left false true true = refl
-none_left false true false = refl
-none_left false false true = refl
-none_left false false false = refl
+pub none_left : (mode : Mode) → left_out mode false false true ≡ false
+none_left AllPixels = refl
+none_left FirstNull = refl
+none_left LastNull = refl
+none_left AreaBoundary = refl
+
+-- the mask map is used where the register's mode is 2
+pub enabled_by : (number : ℕ) → named_mask number ≡ Enabled → eqb number 2 ≡ true
+enabled_by number e = by (eqb number 0) (eqb number 2) e
+  where
+    by : (none two : Bool) → choose none Disabled (choose two Enabled Boundary) ≡ Enabled → two ≡ true
+    by true two e = absurd (cc)
+    by false true e = refl
+    by false false e = absurd (cc)
+
+-- what a test of a mode says
+pub enabled_lem : (mode : MaskMode) → is_enabled mode ≡ true → mode ≡ Enabled
+enabled_lem Disabled e = absurd (false≢true e)
+enabled_lem Boundary e = absurd (false≢true e)
+enabled_lem Enabled e = refl
+
+pub all_lem : (mode : Mode) → is_all mode ≡ true → mode ≡ AllPixels
+all_lem AllPixels e = refl
+all_lem FirstNull e = absurd (false≢true e)
+all_lem LastNull e = absurd (false≢true e)
+all_lem AreaBoundary e = absurd (false≢true e)
 
 pub moves_by_lem : (t : Travel) (d : Drawing) {code : ℕ} → code ≡ code_in t.figure.steps d → moves_by code d ≡ is_move t d
 unfolding is_move

@@ -10,6 +10,10 @@ use Rattle.moves.specs.declared.Turn.TheVariants.{Stay, Forth, Back}
 use Rattle.moves.specs.declared.Travel.{Travel}
 use Rattle.moves.specs.declared.Pen.{Pen}
 use Rattle.moves.specs.Steps.{line_step, code_step, moves_row}
+use Rattle.places.specs.declared.MaskMode.{MaskMode}
+use Rattle.places.specs.declared.MaskMode.TheVariants.{Disabled, Boundary, Enabled}
+use Rattle.places.specs.declared.Mode.{Mode}
+use Rattle.places.specs.declared.Mode.TheVariants.{AllPixels, FirstNull, LastNull, AreaBoundary}
 use Rattle.places.specs.declared.Brush.{Brush}
 use Rattle.places.specs.declared.Setup.{Setup}
 
@@ -40,10 +44,22 @@ mask_x b pen = place_x b pen -ℤ pos b.mask.origin.x
 unfoldable pub mask_y : Brush → Pen → ℤ
 mask_y b pen = pen.pointers.destination.y -ℤ pos b.mask.origin.y
 
+-- 01, One position: mode 00, in which there is no mask boundary
+abbrev pub is_disabled : MaskMode → Bool
+is_disabled Disabled = true
+is_disabled Boundary = false
+is_disabled Enabled = false
+
+-- 01, One position: mode 10, in which the mask map is used
+abbrev pub is_enabled : MaskMode → Bool
+is_enabled Disabled = false
+is_enabled Boundary = false
+is_enabled Enabled = true
+
 -- 01, One position: inside the mask boundary, in modes 01 and 10
 unfoldable pub in_mask : Brush → Pen → Bool
 in_mask b pen =
-    eqb b.mask.mode 0 || (is_within b.mask.map.width (mask_x b pen) && is_within b.mask.map.height (mask_y b pen))
+    is_disabled b.mask.mode || (is_within b.mask.map.width (mask_x b pen) && is_within b.mask.map.height (mask_y b pen))
 
 -- 01, The functions, Codes: bit 4 draws; a code without it only moves
 unfoldable pub is_move : Travel → Drawing → Bool
@@ -83,12 +99,23 @@ on_boundary t e (Codes count code done) =
     of_run (code_step (code_at t.figure.steps count code)).y (not (is_first (Codes count code done))) (not (is_last t (Codes count code done)))
 on_boundary t e (Block inside column row) = true
 
+-- 01, The functions: mode 00, which draws all pixels
+abbrev pub is_all : Mode → Bool
+is_all AllPixels = true
+is_all FirstNull = false
+is_all LastNull = false
+is_all AreaBoundary = false
+
+-- 01, The functions: what a drawing mode leaves out: none, the first position, the last, or what is not on an area's boundary
+abbrev pub left_out : Mode → (first last bounds : Bool) → Bool
+left_out AllPixels first last bounds = false
+left_out FirstNull first last bounds = first
+left_out LastNull first last bounds = last
+left_out AreaBoundary first last bounds = not bounds
+
 -- 01, The functions: first null (mode 01), last null (mode 10); 02, 102: area boundary (mode 11); for each line and each code
 unfoldable pub nulled_by : Setup → ℤ → Drawing → Bool
-nulled_by s e d =
-    (eqb s.brush.flow.mode 1 && is_first d)
-    || (eqb s.brush.flow.mode 2 && is_last s.travel d)
-    || (eqb s.brush.flow.mode 3 && not (on_boundary s.travel e d))
+nulled_by s e d = left_out s.brush.flow.mode (is_first d) (is_last s.travel d) (on_boundary s.travel e d)
 
 -- 01, One position: a nulled pixel, at the pen's E and drawing
 unfoldable pub is_nulled : Setup → Pen → Bool

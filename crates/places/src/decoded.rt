@@ -1,7 +1,7 @@
 ghost use Rattle.std.specs.Prelude.{◌≡◌};
-ghost use Rattle.places.specs.Decoded.{edge_of, flow_of, brush_of};
+ghost use Rattle.places.specs.Decoded.{named_mode, named_mask, edge_of, flow_of, brush_of};
 
-use crate::{Brush, Flow, Mask};
+use crate::{Brush, Flow, Mask, MaskMode, Mode};
 use mixes::depth_of;
 use parts::shapes::{Colours, Figure};
 use pixels::{Map, bits_of};
@@ -10,6 +10,29 @@ use rules::operations::{
     background_source, destination_field, foreground_source, is_fill, mask_mode, mode_of,
     pattern_field,
 };
+
+// The drawing mode of a number: the register's two bits, 0 for a block.
+fn named_mode(number: u32) -> Mode
+    ensures { result ≡ named_mode number }
+{
+    match number {
+        1 => Mode::FirstNull,
+        2 => Mode::LastNull,
+        3 => Mode::AreaBoundary,
+        _ => Mode::AllPixels,
+    }
+}
+
+// The mask mode of a number; a start refuses 3, and where a record holds it there is a boundary alone.
+fn named_mask(number: u32) -> MaskMode
+    ensures { result ≡ named_mask number }
+{
+    match number {
+        0 => MaskMode::Disabled,
+        2 => MaskMode::Enabled,
+        _ => MaskMode::Boundary,
+    }
+}
 
 // The lowest X that a destination counts as: column 0 where an area boundary is drawn, and otherwise any.
 fn edge_of(operations: u32) -> i16
@@ -27,7 +50,7 @@ fn flow_of(operations: u32) -> Flow
         foreground: foreground_source(operations) == 2,
         background: background_source(operations) == 2,
         fills: is_fill(operations),
-        mode: mode_of(operations) as u8,
+        mode: named_mode(mode_of(operations)),
     }
 }
 
@@ -36,19 +59,17 @@ pub fn brush_of(figure: Figure, maps: [Map; 4], colours: Colours) -> Brush
     ensures { result ≡ brush_of figure maps colours }
 {
     let operations = figure.operations;
-    let origin = figure.origin;
     let destination = map_at(maps, destination_field(operations));
-    let mode = mask_mode(operations) as u8;
-    let map = maps[0];
-    let mask = Mask { mode, map, origin };
-    let flow = flow_of(operations);
-    let depth = depth_of(bits_of(destination.format), colours.planes);
     Brush {
         destination,
-        mask,
+        mask: Mask {
+            mode: named_mask(mask_mode(operations)),
+            map: maps[0],
+            origin: figure.origin,
+        },
         edge: edge_of(operations),
-        flow,
+        flow: flow_of(operations),
         colours,
-        depth,
+        depth: depth_of(bits_of(destination.format), colours.planes),
     }
 }

@@ -10,12 +10,29 @@ pub mod decoded;
 pub mod modes;
 pub mod places;
 
+// What the mask keeps back: nothing, what lies outside its boundary, or that and what lies on a pixel of its map that is 0.
+#[derive(Clone, Copy, PartialEq, Eq)]
+pub enum MaskMode {
+    Disabled,
+    Boundary,
+    Enabled,
+}
+
 // The mask: its mode, its map, and where its map begins on the destination.
 #[derive(Clone, Copy)]
 pub struct Mask {
-    pub mode: u8,
+    pub mode: MaskMode,
     pub map: Map,
-    pub origin: Point,
+    pub origin: Point<u16>,
+}
+
+// What the drawing mode keeps back of each line and code: nothing, its first position, its last, or all that do not bound an area.
+#[derive(Clone, Copy, PartialEq, Eq)]
+pub enum Mode {
+    AllPixels,
+    FirstNull,
+    LastNull,
+    AreaBoundary,
 }
 
 // Where a drawing's pixels come from: whether the pattern is made from the source, which of foreground and background take
@@ -26,7 +43,7 @@ pub struct Flow {
     pub foreground: bool,
     pub background: bool,
     pub fills: bool,
-    pub mode: u8,
+    pub mode: Mode,
 }
 
 // What a position needs beside its moves, which a drawing does not change; `edge` is the lowest X that its destination counts as.

@@ -7,7 +7,7 @@ ghost use Rattle.parts.specs.declared.drawing.Drawing.TheVariants.{Line, Codes};
 ghost use Rattle.places.specs.Places.{of_run, on_boundary, nulled_by};
 ghost use Rattle.places.specs.Inner.{code_in, are_codes, moves_by};
 
-use crate::Setup;
+use crate::{Mode, Setup};
 use moves::steps::{code_step, line_step, moves_row};
 use moves::{Travel, Turn};
 use parts::drawing::Drawing;
@@ -28,14 +28,10 @@ fn of_run(down: Turn, first: bool, last: bool) -> bool
 fn line_bounds(travel: Travel, e: i32, rose: bool, done: u16) -> bool
     ensures { result ≡ on_boundary travel e (Line rose done) }
 {
-    let course = travel.course;
-    let step = line_step(course, e);
-    let down = step.y;
-    let way = course.y;
     of_run(
-        way,
+        travel.course.y,
         rose,
-        (done != travel.figure.dimensions.x) & moves_row(down),
+        (done != travel.figure.dimensions.x) & moves_row(line_step(travel.course, e).y),
     )
 }
 
@@ -43,12 +39,11 @@ fn line_bounds(travel: Travel, e: i32, rose: bool, done: u16) -> bool
 fn line_nulled(setup: Setup, e: i32, rose: bool, done: u16) -> bool
     ensures { result ≡ nulled_by setup e (Line rose done) }
 {
-    let mode = setup.brush.flow.mode;
-    match mode {
-        1 => done == 0,
-        2 => done == setup.travel.figure.dimensions.x,
-        3 => !line_bounds(setup.travel, e, rose, done),
-        _ => false,
+    match setup.brush.flow.mode {
+        Mode::AllPixels => false,
+        Mode::FirstNull => done == 0,
+        Mode::LastNull => done == setup.travel.figure.dimensions.x,
+        Mode::AreaBoundary => !line_bounds(setup.travel, e, rose, done),
     }
 }
 
@@ -56,9 +51,7 @@ fn line_nulled(setup: Setup, e: i32, rose: bool, done: u16) -> bool
 fn code_bounds(code: u8, done: u16, last: bool) -> bool
     ensures { result ≡ of_run (code_step code).y (not (eqb done 0)) (not last) }
 {
-    let step = code_step(code);
-    let down = step.y;
-    of_run(down, done != 0, !last)
+    of_run(code_step(code).y, done != 0, !last)
 }
 
 // Whether the drawing mode leaves out a position of this code.
@@ -66,12 +59,11 @@ fn code_nulled(setup: Setup, code: u8, done: u16) -> bool
     ensures { (e : ℤ) (count i : ℕ) → code ≡ code_at setup.travel.figure.steps count i → result ≡ nulled_by setup e (Codes count i done) }
 {
     let last = done == steps_of(code);
-    let mode = setup.brush.flow.mode;
-    match mode {
-        1 => done == 0,
-        2 => last,
-        3 => !code_bounds(code, done, last),
-        _ => false,
+    match setup.brush.flow.mode {
+        Mode::AllPixels => false,
+        Mode::FirstNull => done == 0,
+        Mode::LastNull => last,
+        Mode::AreaBoundary => !code_bounds(code, done, last),
     }
 }
 
@@ -79,11 +71,10 @@ fn code_nulled(setup: Setup, code: u8, done: u16) -> bool
 pub fn code_in(steps: u32, drawing: Drawing) -> u8
     ensures { result ≡ code_in steps drawing }
 {
-    match drawing {
-        Drawing::Nothing { .. } => 0,
-        Drawing::Line { .. } => 0,
-        Drawing::Codes { count, code, .. } => code_at(steps, count, code),
-        Drawing::Block { .. } => 0,
+    if let Drawing::Codes { count, code, .. } = drawing {
+        code_at(steps, count, code)
+    } else {
+        0
     }
 }
 
@@ -91,12 +82,7 @@ pub fn code_in(steps: u32, drawing: Drawing) -> u8
 fn are_codes(drawing: Drawing) -> bool
     ensures { result ≡ are_codes drawing }
 {
-    match drawing {
-        Drawing::Nothing { .. } => false,
-        Drawing::Line { .. } => false,
-        Drawing::Codes { .. } => true,
-        Drawing::Block { .. } => false,
-    }
+    matches!(drawing, Drawing::Codes { .. })
 }
 
 // Whether a position of this code only moves, as one of a code without bit 4 does.
@@ -112,9 +98,8 @@ pub fn is_nulled(setup: Setup, code: u8, e: i32, drawing: Drawing) -> bool
     ensures { result ≡ nulled_by setup e drawing }
 {
     match drawing {
-        Drawing::Nothing { .. } => false,
         Drawing::Line { rose, done } => line_nulled(setup, e, rose, done),
         Drawing::Codes { done, .. } => code_nulled(setup, code, done),
-        Drawing::Block { .. } => false,
+        Drawing::Nothing { .. } | Drawing::Block { .. } => false,
     }
 }

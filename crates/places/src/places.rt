@@ -3,7 +3,7 @@ ghost use Rattle.std.specs.Int.Signed.{lt_z};
 ghost use Rattle.numbers.specs.Choose.{choose};
 ghost use Rattle.places.specs.Places.{is_within, column_of, place_x, mask_x, mask_y, on_map, in_mask};
 
-use crate::Brush;
+use crate::{Brush, MaskMode};
 use moves::Pen;
 use parts::shapes::Point;
 
@@ -14,7 +14,8 @@ fn place_from(origin: u16, z: i16) -> i32
     z as i32 - origin as i32
 }
 
-// Whether that place lies from 0 to the last column or row; both edges are inside.
+// Whether that place lies from 0 to the last column or row; both edges are inside. A range's `contains` is no plainer than the two
+// tests, and asks its bounds by reference and by branches.
 fn is_within(origin: u16, last: u16, z: i16) -> bool
     ensures { result ≡ is_within last (z -ℤ pos origin) }
 {
@@ -26,23 +27,18 @@ fn is_within(origin: u16, last: u16, z: i16) -> bool
 fn column_of(origin: u16, z: i16) -> u16
     ensures { result ≡ column_of (z -ℤ pos origin) }
 {
-    let place = place_from(origin, z);
-    if place < 0 { 0 } else { place as u16 }
+    place_from(origin, z).max(0) as u16
 }
 
 // The destination's X, and in an area boundary column 0 for one left of the map.
 fn place_x(brush: Brush, pen: Pen) -> i16
     ensures { result ≡ place_x brush pen }
 {
-    if pen.pointers.destination.x < brush.edge {
-        brush.edge
-    } else {
-        pen.pointers.destination.x
-    }
+    brush.edge.max(pen.pointers.destination.x)
 }
 
 // The destination's column and row.
-pub fn destination_of(brush: Brush, pen: Pen) -> Point
+pub fn destination_of(brush: Brush, pen: Pen) -> Point<u16>
     ensures { (result.x ≡ column_of (place_x brush pen)) × (result.y ≡ column_of pen.pointers.destination.y) }
 {
     Point {
@@ -52,7 +48,7 @@ pub fn destination_of(brush: Brush, pen: Pen) -> Point
 }
 
 // The mask pixel's column and row.
-pub fn mask_of(brush: Brush, pen: Pen) -> Point
+pub fn mask_of(brush: Brush, pen: Pen) -> Point<u16>
     ensures { (result.x ≡ column_of (mask_x brush pen)) × (result.y ≡ column_of (mask_y brush pen)) }
 {
     Point {
@@ -73,16 +69,14 @@ pub fn on_map(brush: Brush, pen: Pen) -> bool
 pub fn in_mask(brush: Brush, pen: Pen) -> bool
     ensures { result ≡ in_mask brush pen }
 {
-    if brush.mask.mode == 0 {
-        return true;
-    }
-    is_within(
-        brush.mask.origin.x,
-        brush.mask.map.width,
-        place_x(brush, pen),
-    ) & is_within(
-        brush.mask.origin.y,
-        brush.mask.map.height,
-        pen.pointers.destination.y,
-    )
+    brush.mask.mode == MaskMode::Disabled
+        || (is_within(
+            brush.mask.origin.x,
+            brush.mask.map.width,
+            place_x(brush, pen),
+        ) & is_within(
+            brush.mask.origin.y,
+            brush.mask.map.height,
+            pen.pointers.destination.y,
+        ))
 }

@@ -12,12 +12,13 @@ use Rattle.parts.specs.Drawings.{inside_of, with_inside}
 use Rattle.moves.specs.declared.Pen.{Pen}
 use Rattle.moves.specs.Moves.{pen_with}
 use Rattle.places.specs.declared.Setup.{Setup}
-use Rattle.places.specs.Places.{on_map, in_mask, is_move, is_nulled}
+use Rattle.places.specs.Places.{on_map, in_mask, is_enabled, is_move, is_nulled}
+use Rattle.places.proofs.ModeLaws.{enabled_lem}
 use Rattle.position.specs.Fates.{destination_pixel, on_zero, is_compared, fate_of}
 use Rattle.position.specs.Drawn.{source_pixel, is_one, inside_at, crossed, is_foreground, ink_of, picked, mixed_pixel, drawn}
 use Rattle.position.specs.Within.{Within}
 use Rattle.position.specs.Inner.{is_painted}
-use Rattle.position.proofs.Writing.{fated, judged, open_inside, painted_open, put, drawn_by_lem}
+use Rattle.position.proofs.Writing.{fated, judged, painted_inside, put, drawn_by_lem}
 use Rattle.position.proofs.Safety.{derived_reads, picked_reads}
 
 -- a choice of which one side is asked for only where its test holds
@@ -71,8 +72,8 @@ module _ (s : Setup) (memory rest : List ℕ) (pen : Pen) (h : Within s (length 
     zero_behind : on_zero s.brush (memory ++ rest) pen ≡ on_zero s.brush memory pen
     unfolding on_zero
     zero_behind =
-        asked_only (eqb s.brush.mask.mode 2) _ _
-        (λ used. ap (λ (n : ℕ). eqb n 0) (pixel_append memory s.brush.mask.map _ _ rest (h.mask on inside (eqb-true _ 2 used))))
+        asked_only (is_enabled s.brush.mask.mode) _ _
+        (λ used. ap (λ (n : ℕ). eqb n 0) (pixel_append memory s.brush.mask.map _ _ rest (h.mask on inside (enabled_lem s.brush.mask.mode used))))
 
     destination_behind : destination_pixel s.brush (memory ++ rest) pen ≡ destination_pixel s.brush memory pen
     unfolding destination_pixel
@@ -105,7 +106,7 @@ module _ (s : Setup) (memory rest : List ℕ) (pen : Pen) (h : Within s (length 
   drawn_append =
       let f = fate_of s memory pen in
       rw (fate_behind, drawn_by_lem s (memory ++ rest) pen f, drawn_by_lem s memory pen f)
-      (by (is_painted f) (λ painted. let on = open_inside s memory pen (painted_open s memory pen painted).0 in put_behind on.0 on.1))
+      (by (is_painted f) (λ painted. let on = painted_inside s memory pen painted in put_behind on.0 on.1))
     where
       by : (t : Bool) → (t ≡ true → put s (memory ++ rest) pen ≡ put s memory pen ++ rest)
           → choose t (put s (memory ++ rest) pen) (memory ++ rest) ≡ choose t (put s memory pen) memory ++ rest

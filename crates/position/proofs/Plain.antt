@@ -6,6 +6,7 @@ use Rattle.numbers.proofs.Choices.{choose_true, choose_false}
 use Prim.Native.Nat.{ℕ}
 use Rattle.mixes.specs.Conditions.{holds_of, condition_holds}
 use Rattle.moves.specs.declared.Pen.{Pen}
+use Rattle.places.specs.declared.MaskMode.TheVariants.{Disabled}
 use Rattle.places.specs.declared.Setup.{Setup}
 use Rattle.places.specs.Places.{in_mask}
 use Rattle.position.specs.Fates.{on_zero, is_compared}
@@ -13,11 +14,11 @@ use Rattle.position.specs.Drawn.{is_foreground, ink_of}
 
 module _ (s : Setup) (memory : List ℕ) (pen : Pen) where
   -- without a mask there is no boundary, and no pixel of it is 0
-  pub unbounded : s.brush.mask.mode ≡ 0 → in_mask s.brush pen ≡ true
+  pub unbounded : s.brush.mask.mode ≡ Disabled → in_mask s.brush pen ≡ true
   unfolding in_mask
   unbounded e = rw e
 
-  pub unmasked : s.brush.mask.mode ≡ 0 → on_zero s.brush memory pen ≡ false
+  pub unmasked : s.brush.mask.mode ≡ Disabled → on_zero s.brush memory pen ≡ false
   unfolding on_zero
   unmasked e = rw e
 

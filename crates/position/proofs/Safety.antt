@@ -19,9 +19,11 @@ use Rattle.moves.specs.declared.Pen.{Pen}
 use Rattle.moves.specs.Moves.{pen_with, moved}
 use Rattle.moves.specs.Inner.{pointers_inside}
 use Rattle.moves.proofs.Kept.{source_in, pattern_in, pointers_moved}
+use Rattle.places.specs.declared.MaskMode.{MaskMode}
+use Rattle.places.specs.declared.MaskMode.TheVariants.{Enabled}
 use Rattle.places.specs.declared.Flow.{Flow}
 use Rattle.places.specs.declared.Setup.{Setup}
-use Rattle.places.specs.Places.{is_within, mask_x, mask_y, in_mask}
+use Rattle.places.specs.Places.{is_within, mask_x, mask_y, in_mask, is_disabled}
 use Rattle.position.specs.Drawn.{source_pixel, inside_at, crossed}
 use Rattle.position.specs.Within.{reads_source, Within}
 use Rattle.position.specs.Inner.{pattern_read, source_read, Safe}
@@ -87,16 +89,16 @@ unfolding end_holds
 held_within size map x y h v e = omega (arith, place_lt map x y h v, leb-true (map.base + needed_of map) size e)
 
 -- so does the pixel of a pointer in it
-inside_within : (size : ℕ) (map : Map) (p : Point) → end_holds size map ≡ true → is_inside map p ≡ true → place_of map p.x p.y < size
+inside_within : (size : ℕ) (map : Map) (p : Point ℕ) → end_holds size map ≡ true → is_inside map p ≡ true → place_of map p.x p.y < size
 inside_within size map p held inside = held_within size map p.x p.y (inside_x map p inside) (inside_y map p inside) held
 
 -- what is asked where there is a mask holds in mode 10
-masked : (mode : ℕ) (b : Bool) → mode ≡ 2 → (eqb mode 0 || b) ≡ true → b ≡ true
+masked : (mode : MaskMode) (b : Bool) → mode ≡ Enabled → (is_disabled mode || b) ≡ true → b ≡ true
 masked mode b e h = rw e at h
 
 module _ (s : Setup) (size : ℕ) (pen : Pen) where
   -- in mode 10 the mask pixel inside the boundary is one of its map
-  mask_inside : in_mask s.brush pen ≡ true → s.brush.mask.mode ≡ 2
+  mask_inside : in_mask s.brush pen ≡ true → s.brush.mask.mode ≡ Enabled
       → (is_within s.brush.mask.map.width (mask_x s.brush pen) ≡ true) × (is_within s.brush.mask.map.height (mask_y s.brush pen) ≡ true)
   unfolding is_within mask_x mask_y in_mask
   mask_inside inside used = (and-eq-true_iff (is_within s.brush.mask.map.width (mask_x s.brush pen)) _).0 (masked s.brush.mask.mode _ used inside)

@@ -18,6 +18,7 @@ use Rattle.position.specs.declared.Fate.{Fate}
 use Rattle.position.specs.declared.Fate.TheVariants.{Moved, Nulled, OutsideMap, OutsideMask, MaskZero, Compared, Painted}
 use Rattle.position.specs.Fates.{on_zero, is_compared, fate_of}
 use Rattle.position.specs.Drawn.{mixed_pixel, drawn_by, drawn}
+use Rattle.std.specs.Prelude.{Result, Ok, Err}
 use Rattle.position.specs.Inner.{is_painted, foreseen_of}
 
 -- the destination's column and row
@@ -45,44 +46,39 @@ module _ (s : Setup) (memory : List ℕ) (pen : Pen) where
   abbrev pub judged : Fate
   judged = choose (on_zero s.brush memory pen) MaskZero (choose (is_compared s.brush memory pen) Compared Painted)
 
-  -- a position is foreseen as painted, inside its map and the mask boundary, and then judged, or has the fate that is foreseen
-  by_foreseen : (P : Fate → Fate → Type 0) → (on_map s.brush pen ≡ true → in_mask s.brush pen ≡ true → P Painted judged)
-      → ((f : Fate) → is_painted f ≡ false → P f f)
+  -- a position that nothing keeps back is inside its map and the mask boundary, and then judged; another has the fate that is foreseen
+  by_foreseen : (P : Result Unit Fate → Fate → Type 0) → (on_map s.brush pen ≡ true → in_mask s.brush pen ≡ true → P (Ok tt) judged)
+      → ((f : Fate) → is_painted f ≡ false → P (Err f) f)
       → P (foreseen_of s pen) (fate_of s memory pen)
   unfolding foreseen_of fate_of
   by_foreseen P free held = by (is_move s.travel pen.drawing) (is_nulled s pen) (on_map s.brush pen) (in_mask s.brush pen) refl refl
     where
       by : (moves nulled on inside : Bool) → on_map s.brush pen ≡ on → in_mask s.brush pen ≡ inside
-          → P (fated moves nulled on inside Painted) (fated moves nulled on inside judged)
+          → P (choose moves (Err Moved) (choose nulled (Err Nulled) (choose (not on) (Err OutsideMap) (choose (not inside) (Err OutsideMask) (Ok tt)))))
+          (fated moves nulled on inside judged)
       by true nulled on inside o i = held Moved refl
       by false true on inside o i = held Nulled refl
       by false false false inside o i = held OutsideMap refl
       by false false true false o i = held OutsideMask refl
       by false false true true o i = free o i
 
-  pub open_inside : is_painted (foreseen_of s pen) ≡ true → (on_map s.brush pen ≡ true) × (in_mask s.brush pen ≡ true)
-  open_inside =
-      by_foreseen (λ a b. is_painted a ≡ true → (on_map s.brush pen ≡ true) × (in_mask s.brush pen ≡ true))
+  pub free : foreseen_of s pen ≡ Ok tt → (on_map s.brush pen ≡ true) × (in_mask s.brush pen ≡ true) × (fate_of s memory pen ≡ judged)
+  free =
+      by_foreseen (λ a b. a ≡ Ok tt → (on_map s.brush pen ≡ true) × (in_mask s.brush pen ≡ true) × (b ≡ judged))
+      (λ on inside e. (on, inside, refl)) (λ f no e. absurd (cc))
+
+  pub kept_back : (f : Fate) → foreseen_of s pen ≡ Err f → (f ≡ fate_of s memory pen) × (is_painted f ≡ false)
+  kept_back f =
+      by_foreseen (λ a b. a ≡ Err f → (f ≡ b) × (is_painted f ≡ false)) (λ on inside e. absurd (cc)) (λ g no e. (cc, cc))
+
+  -- a painted position is inside its map and the mask boundary
+  pub painted_inside : is_painted (fate_of s memory pen) ≡ true → (on_map s.brush pen ≡ true) × (in_mask s.brush pen ≡ true)
+  painted_inside =
+      by_foreseen (λ a b. is_painted b ≡ true → (on_map s.brush pen ≡ true) × (in_mask s.brush pen ≡ true))
       (λ on inside e. (on, inside)) (λ f no e. absurd (false≢true (sym no ∙ e)))
 
-  pub open_fate : is_painted (foreseen_of s pen) ≡ true → fate_of s memory pen ≡ judged
-  open_fate = by_foreseen (λ a b. is_painted a ≡ true → b ≡ judged) (λ on inside e. refl) (λ f no e. absurd (false≢true (sym no ∙ e)))
-
-  pub closed_fate : is_painted (foreseen_of s pen) ≡ false → fate_of s memory pen ≡ foreseen_of s pen
-  closed_fate = by_foreseen (λ a b. is_painted a ≡ false → b ≡ a) (λ on inside no. absurd (false≢true (sym no))) (λ f held no. refl)
-
-  -- a painted position was foreseen as one, and is not on a 0 mask pixel
-  pub painted_open : is_painted (fate_of s memory pen) ≡ true → (is_painted (foreseen_of s pen) ≡ true) × (on_zero s.brush memory pen ≡ false)
-  painted_open =
-      by_foreseen (λ a b. is_painted b ≡ true → (is_painted a ≡ true) × (on_zero s.brush memory pen ≡ false))
-      (λ on inside e. (refl, by (on_zero s.brush memory pen) (is_compared s.brush memory pen) e)) (λ f no e. absurd (false≢true (sym no ∙ e)))
-    where
-      by : (zero compared : Bool) → is_painted (choose zero MaskZero (choose compared Compared Painted)) ≡ true → zero ≡ false
-      by true compared e = absurd (false≢true e)
-      by false compared e = refl
-
   pub painted_on_map : is_painted (fate_of s memory pen) ≡ true → on_map s.brush pen ≡ true
-  painted_on_map e = (open_inside (painted_open e).0).0
+  painted_on_map e = (painted_inside e).0
 
   -- ---- what is drawn
 

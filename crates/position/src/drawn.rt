@@ -6,10 +6,10 @@ ghost use Rattle.position.specs.Drawn.{inside_at, drawn};
 ghost use Rattle.position.specs.Within.{Within};
 ghost use Rattle.position.specs.Inner.{InkBlends};
 
-use crate::Blends;
-use crate::judge::{is_painted, judge};
+use crate::judge::judge;
 use crate::look::look;
 use crate::write::write;
+use crate::{Blends, Fate};
 use moves::Pen;
 use places::Setup;
 
@@ -23,10 +23,10 @@ pub fn draw(setup: Setup, blends: Blends, memory: &mut [u8], pen: Pen) -> bool
     ensures { (result ≡ inside_at setup memory.old pen) × (memory.new ≡ drawn setup memory.old pen) }
 {
     let sight = look(setup, memory, pen);
-    let inside = sight.pattern.inside;
-    let fate = judge(setup, sight);
-    if is_painted(fate) {
-        write(setup, blends, memory, sight);
+    if let Ok(target) = sight.target
+        && judge(setup, target) == Fate::Painted
+    {
+        write(setup, blends, memory, sight.pattern, target);
     }
-    inside
+    sight.pattern.inside
 }

@@ -10,7 +10,7 @@ use parts::shapes::Ink;
 use places::Brush;
 
 // The blend of an ink: of the source pixel where it takes that, and otherwise of its colour.
-fn ink_blend(depth: Depth, ink: Ink, takes: bool) -> Blend
+fn ink_blend(depth: Depth, ink: Ink, takes: bool) -> Blend<u32>
     ensures { Cut depth → InkBlend depth ink takes result }
 {
     let blend = blend_of(depth, ink.mix);
@@ -25,11 +25,8 @@ fn ink_blend(depth: Depth, ink: Ink, takes: bool) -> Blend
 pub fn blends_of(brush: Brush) -> Blends
     ensures { Cut brush.depth → InkBlends brush result }
 {
-    let depth = brush.depth;
-    let foreground = brush.colours.foreground;
-    let background = brush.colours.background;
     Blends {
-        foreground: ink_blend(depth, foreground, brush.flow.foreground),
-        background: ink_blend(depth, background, brush.flow.background),
+        foreground: ink_blend(brush.depth, brush.colours.foreground, brush.flow.foreground),
+        background: ink_blend(brush.depth, brush.colours.background, brush.flow.background),
     }
 }

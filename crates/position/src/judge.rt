@@ -5,49 +5,33 @@ ghost use Rattle.mixes.specs.Conditions.{condition_holds};
 ghost use Rattle.mixes.specs.Inner.{Cut};
 ghost use Rattle.moves.specs.declared.Pen.{Pen};
 ghost use Rattle.position.specs.Fates.{fate_of};
-ghost use Rattle.position.specs.Inner.{is_painted, foreseen_of, Seen};
+ghost use Rattle.position.specs.Inner.{foreseen_of, Aimed};
 
-use crate::{Fate, Sight};
+use crate::{Fate, Target};
 use mixes::conditions::holds;
 use moves::Pen;
 use places::modes::{code_in, is_move, is_nulled};
 use places::places::{in_mask, on_map};
 use places::{Brush, Setup};
 
-// Whether a fate writes.
-pub(crate) fn is_painted(fate: Fate) -> bool
-    ensures { result ≡ is_painted fate }
-{
-    match fate {
-        Fate::Moved => false,
-        Fate::Nulled => false,
-        Fate::OutsideMap => false,
-        Fate::OutsideMask => false,
-        Fate::MaskZero => false,
-        Fate::Compared => false,
-        Fate::Painted => true,
-    }
-}
-
-// What becomes of a position as far as no memory tells.
-pub(crate) fn foresee(setup: Setup, pen: Pen) -> Fate
+// What keeps a position back, as far as no memory tells.
+pub(crate) fn foresee(setup: Setup, pen: Pen) -> Result<(), Fate>
     ensures { result ≡ foreseen_of setup pen }
 {
-    let drawing = pen.drawing;
-    let code = code_in(setup.travel.figure.steps, drawing);
-    if is_move(code, drawing) {
-        return Fate::Moved;
+    let code = code_in(setup.travel.figure.steps, pen.drawing);
+    if is_move(code, pen.drawing) {
+        return Err(Fate::Moved);
     }
-    if is_nulled(setup, code, pen.e, drawing) {
-        return Fate::Nulled;
+    if is_nulled(setup, code, pen.e, pen.drawing) {
+        return Err(Fate::Nulled);
     }
     if !on_map(setup.brush, pen) {
-        return Fate::OutsideMap;
+        return Err(Fate::OutsideMap);
     }
     if !in_mask(setup.brush, pen) {
-        return Fate::OutsideMask;
+        return Err(Fate::OutsideMask);
     }
-    Fate::Painted
+    Ok(())
 }
 
 // Whether the compare condition is true of a destination pixel.
@@ -63,19 +47,12 @@ fn is_compared(brush: Brush, pixel: u32) -> bool
     )
 }
 
-// What becomes of a position that found this.
-pub(crate) fn judge(setup: Setup, sight: Sight) -> Fate
+// What becomes of a position that found this target.
+pub(crate) fn judge(setup: Setup, target: Target) -> Fate
     requires { Cut setup.brush.depth }
-    ensures { (memory : List ℕ) (pen : Pen) → Seen setup memory pen sight → result ≡ fate_of setup memory pen }
+    ensures { (memory : List ℕ) (pen : Pen) → Aimed setup memory pen target → result ≡ fate_of setup memory pen }
 {
-    let foreseen = sight.foreseen;
-    if !is_painted(foreseen) {
-        return foreseen;
-    }
-    if sight.zero {
-        return Fate::MaskZero;
-    }
-    if is_compared(setup.brush, sight.pixel) {
+    if is_compared(setup.brush, target.pixel) {
         return Fate::Compared;
     }
     Fate::Painted

@@ -11,7 +11,7 @@ mod look;
 mod write;
 
 // What becomes of a position: only `Painted` writes.
-#[derive(Clone, Copy)]
+#[derive(Clone, Copy, PartialEq, Eq)]
 pub enum Fate {
     Moved,
     Nulled,
@@ -25,8 +25,8 @@ pub enum Fate {
 // The logical mixes of foreground and background under the plane mask.
 #[derive(Clone, Copy)]
 pub struct Blends {
-    pub foreground: Blend,
-    pub background: Blend,
+    pub foreground: Blend<u32>,
+    pub background: Blend<u32>,
 }
 
 // What a position finds of its pattern: whether it is 1, and whether a fill is inside then.
@@ -36,14 +36,17 @@ struct Pattern {
     inside: bool,
 }
 
-// What a position finds: its pattern; what becomes of it as far as no memory tells; where it may be painted whether the mask pixel is
-// 0; and where that is not, the destination's cell and pixel, and the source pixel.
+// What a position finds where it may be painted: the destination's cell and pixel, and the source pixel.
 #[derive(Clone, Copy)]
-struct Sight {
-    pattern: Pattern,
-    foreseen: Fate,
-    zero: bool,
+struct Target {
     cell: Cell,
     pixel: u32,
     source: u32,
+}
+
+// What a position finds: its pattern; and its target, or the fate that keeps it back before that is looked for.
+#[derive(Clone, Copy)]
+struct Sight {
+    pattern: Pattern,
+    target: Result<Target, Fate>,
 }

@@ -8,15 +8,15 @@ ghost use Rattle.places.specs.Places.{column_of, place_x, on_map, in_mask};
 ghost use Rattle.position.specs.Fates as fates;
 ghost use Rattle.position.specs.Within as within;
 ghost use Rattle.position.specs.Within.{Within};
-ghost use Rattle.position.specs.Inner.{pattern_read, source_read, Seen};
+ghost use Rattle.position.specs.Inner.{pattern_read, source_read, Found, Seen};
 
-use crate::judge::{foresee, is_painted};
-use crate::{Fate, Pattern, Sight};
+use crate::judge::foresee;
+use crate::{Fate, Pattern, Sight, Target};
 use moves::Pen;
 use parts::drawing::{Drawing, is_inside};
 use pixels::{Cell, find, get, value};
 use places::places::{destination_of, mask_of};
-use places::{Brush, Flow, Setup};
+use places::{Flow, MaskMode, Setup};
 
 // Whether a fill is inside after a pattern pixel, which turns it where it is 1.
 fn inside_after(one: bool, drawing: Drawing) -> bool
@@ -43,9 +43,8 @@ fn pattern_read(setup: Setup, memory: &[u8], pen: Pen) -> Pattern
         pen.pointers.pattern.x,
         pen.pointers.pattern.y,
     );
-    let drawing = pen.drawing;
     if setup.brush.flow.fills {
-        let inside = inside_after(pixel != 0, drawing);
+        let inside = inside_after(pixel != 0, pen.drawing);
         Pattern {
             one: inside,
             inside,
@@ -87,7 +86,7 @@ fn is_on_zero(setup: Setup, memory: &[u8], pen: Pen) -> bool
     requires { Within setup (length memory.now) pen × (on_map setup.brush pen ≡ true) × (in_mask setup.brush pen ≡ true) }
     ensures { result ≡ fates.on_zero setup.brush memory.now pen }
 {
-    if setup.brush.mask.mode != 2 {
+    if setup.brush.mask.mode != MaskMode::Enabled {
         return false;
     }
     let at = mask_of(setup.brush, pen);
@@ -103,24 +102,21 @@ fn destination_cell(setup: Setup, memory: &[u8], pen: Pen) -> Cell
     find(memory, setup.brush.destination, at.x, at.y)
 }
 
-// A sight of no destination.
-fn blank(pattern: Pattern, foreseen: Fate, zero: bool) -> Sight
-    ensures { (result.pattern ≡ pattern) × (result.foreseen ≡ foreseen) × (result.zero ≡ zero) }
+// The target of a position, all of whose pixels lie in the memory, or the fate that keeps it back.
+fn target_read(setup: Setup, memory: &[u8], pen: Pen) -> Result<Target, Fate>
+    requires { Within setup (length memory.now) pen }
+    ensures { Found setup memory.now pen result }
 {
-    let cell = Cell {
-        at: 0,
-        byte: 0,
-        shift: 0,
-        bits: 0,
-    };
-    Sight {
-        pattern,
-        foreseen,
-        zero,
-        cell,
-        pixel: 0,
-        source: 0,
+    foresee(setup, pen)?;
+    if is_on_zero(setup, memory, pen) {
+        return Err(Fate::MaskZero);
     }
+    let cell = destination_cell(setup, memory, pen);
+    Ok(Target {
+        cell,
+        pixel: value(cell),
+        source: source_read(setup, memory, pen),
+    })
 }
 
 // What a position finds, all of whose pixels lie in the memory.
@@ -128,22 +124,8 @@ pub(crate) fn look(setup: Setup, memory: &[u8], pen: Pen) -> Sight
     requires { (setup.brush.flow.fills ≡ true → setup.travel.pattern.used ≡ true) × Within setup (length memory.now) pen }
     ensures { Seen setup memory.now pen result }
 {
-    let pattern = pattern_read(setup, memory, pen);
-    let foreseen = foresee(setup, pen);
-    if !is_painted(foreseen) {
-        return blank(pattern, foreseen, false);
-    }
-    if is_on_zero(setup, memory, pen) {
-        return blank(pattern, foreseen, true);
-    }
-    let cell = destination_cell(setup, memory, pen);
-    let source = source_read(setup, memory, pen);
     Sight {
-        pattern,
-        foreseen,
-        zero: false,
-        cell,
-        pixel: value(cell),
-        source,
+        pattern: pattern_read(setup, memory, pen),
+        target: target_read(setup, memory, pen),
     }
 }

@@ -6,104 +6,85 @@ ghost use Rattle.mixes.specs.Inner.{Cut};
 ghost use Rattle.moves.specs.declared.Pen.{Pen};
 ghost use Rattle.position.specs.Fates.{fate_of};
 ghost use Rattle.position.specs.Drawn.{is_foreground, mixed_pixel, drawn};
-ghost use Rattle.position.specs.Inner.{is_painted, Target, Seen, InkBlends};
+ghost use Rattle.position.specs.Inner.{is_painted, pattern_read, source_read, Aimed, InkBlends};
 
-use crate::{Blends, Sight};
-use mixes::logical::{Blend, blend_pixels};
+use crate::{Blends, Pattern, Target};
+use mixes::logical::blend_pixels;
 use mixes::mix;
-use parts::shapes::{Colours, Ink};
 use pixels::store;
-use places::{Flow, Setup};
+use places::Setup;
 
 // Whether the pattern is 1: its map's pixel, in a fill where that is inside, the source pixel where it is derived, and otherwise always.
-fn is_foreground(setup: Setup, sight: Sight) -> bool
-    ensures { (memory : List ℕ) (pen : Pen) → Seen setup memory pen sight → Target setup memory pen sight → result ≡ is_foreground setup memory pen }
+fn is_foreground(setup: Setup, pattern: Pattern, source: u32) -> bool
+    ensures { (memory : List ℕ) (pen : Pen) → pattern ≡ pattern_read setup memory pen → source ≡ source_read setup memory pen
+        → result ≡ is_foreground setup memory pen }
 {
     if setup.travel.pattern.used {
-        return sight.pattern.one;
+        return pattern.one;
     }
     if setup.brush.flow.derived {
-        return sight.source != 0;
+        return source != 0;
     }
     true
 }
 
-// The mix and the colour that the pattern picks.
-fn ink_of(colours: Colours, foreground: bool) -> Ink
-    ensures { result ≡ choose foreground colours.foreground colours.background }
+// Of foreground and background the one that the pattern picks; and so of any two that a test tells apart.
+fn pick<T: Drop>(first: bool, a: T, b: T) -> T
+    ensures { result ≡ choose first a b }
 {
-    if foreground {
-        colours.foreground
-    } else {
-        colours.background
-    }
-}
-
-// The blend that the pattern picks.
-fn blend_by(blends: Blends, foreground: bool) -> Blend
-    ensures { result ≡ choose foreground blends.foreground blends.background }
-{
-    if foreground {
-        blends.foreground
-    } else {
-        blends.background
-    }
-}
-
-// Whether the source that the pattern picks is the source pixel.
-fn takes_source(flow: Flow, foreground: bool) -> bool
-    ensures { result ≡ choose foreground flow.foreground flow.background }
-{
-    if foreground {
-        flow.foreground
-    } else {
-        flow.background
-    }
-}
-
-// The source pixel or the colour, as the pattern picks.
-fn picked(flow: Flow, foreground: bool, source: u32, colour: u32) -> u32
-    ensures { result ≡ choose (choose foreground flow.foreground flow.background) source colour }
-{
-    if takes_source(flow, foreground) {
-        source
-    } else {
-        colour
-    }
+    if first { a } else { b }
 }
 
 // The destination pixel after the mix, under the plane mask; a logical mix was worked before.
-fn mixed_pixel(setup: Setup, blends: Blends, sight: Sight) -> u32
+fn mixed_pixel(setup: Setup, blends: Blends, pattern: Pattern, target: Target) -> u32
     requires { Cut setup.brush.depth × InkBlends setup.brush blends }
-    ensures { (memory : List ℕ) (pen : Pen) → Seen setup memory pen sight → Target setup memory pen sight → result ≡ mixed_pixel setup memory pen }
+    ensures { (memory : List ℕ) (pen : Pen) → pattern ≡ pattern_read setup memory pen → Aimed setup memory pen target
+        → result ≡ mixed_pixel setup memory pen }
 {
-    let foreground = is_foreground(setup, sight);
-    let ink = ink_of(setup.brush.colours, foreground);
+    let foreground = is_foreground(setup, pattern, target.source);
+    let ink = pick(
+        foreground,
+        setup.brush.colours.foreground,
+        setup.brush.colours.background,
+    );
     if ink.mix < 16 {
         return blend_pixels(
             setup.brush.depth,
-            blend_by(blends, foreground),
-            sight.source,
-            sight.pixel,
+            pick(foreground, blends.foreground, blends.background),
+            target.source,
+            target.pixel,
         );
     }
+    let takes = pick(
+        foreground,
+        setup.brush.flow.foreground,
+        setup.brush.flow.background,
+    );
     mix(
         setup.brush.depth,
         ink.mix,
-        picked(setup.brush.flow, foreground, sight.source, ink.colour),
-        sight.pixel,
+        pick(takes, target.source, ink.colour),
+        target.pixel,
     )
 }
 
 // Stores the mix in the destination's cell, which lies in the memory.
-pub(crate) fn write(setup: Setup, blends: Blends, memory: &mut [u8], sight: Sight)
+pub(crate) fn write(
+    setup: Setup,
+    blends: Blends,
+    memory: &mut [u8],
+    pattern: Pattern,
+    target: Target,
+)
     requires { Cut setup.brush.depth
         × InkBlends setup.brush blends
-        × (sight.cell.shift + sight.cell.bits ≤ 8) × (sight.cell.at < length memory.old) }
-    ensures { (pen : Pen) → Seen setup memory.old pen sight → is_painted (fate_of setup memory.old pen) ≡ true
-        → memory.new ≡ drawn setup memory.old pen }
+        × (target.cell.shift + target.cell.bits ≤ 8) × (target.cell.at < length memory.old) }
+    ensures { (pen : Pen) → pattern ≡ pattern_read setup memory.old pen → Aimed setup memory.old pen target
+        → is_painted (fate_of setup memory.old pen) ≡ true → memory.new ≡ drawn setup memory.old pen }
 {
-    let new = mixed_pixel(setup, blends, sight);
-    let cell = sight.cell;
-    store(memory, cell, new);
+    store(
+        memory,
+        target.cell,
+        mixed_pixel(setup, blends, pattern, target),
+    );
 }

@@ -7,7 +7,7 @@ use Rattle.numbers.proofs.Fields.{xor_twice}
 use Rattle.numbers.proofs.Order.{lt_or_le, eq_or_ne}
 use Rattle.mixes.proofs.Binary.{ones_suc}
 use Rattle.mixes.proofs.Bitwise.{Bitwise, mask, source, destination, and, xor, agree_all}
-use Rattle.rows.specs.declared.Whole.{Whole}
+use Rattle.mixes.specs.declared.logical.Blend.{Blend}
 use Rattle.rows.specs.Inner.{wholly, along, changed, carried}
 use Rattle.rows.proofs.ByteLaws.{Bytes}
 
@@ -134,20 +134,20 @@ module _ (op : ℕ → ℕ → ℕ) (f : ℕ → ℕ) (alone : (s d : ℕ) → o
 -- ---- blends of bytes
 
 -- masks of a byte
-pub record Masks (w : Whole) : Type 0 where
+pub record Masks (w : Blend ℕ) : Type 0 where
   pub always : w.always < 256
   pub source : w.source < 256
   pub destination : w.destination < 256
   pub both : w.both < 256
 
-pub wholly_lt : (w : Whole) → Masks w → (s d : ℕ) → s < 256 → d < 256 → wholly w s d < 256
+pub wholly_lt : (w : Blend ℕ) → Masks w → (s d : ℕ) → s < 256 → d < 256 → wholly w s d < 256
 wholly_lt w h s d hs hd =
     xor_lt 8 d _ hd
     (xor_lt 8 _ _ (xor_lt 8 _ _ h.always (and_lt 8 _ _ h.source hs))
     (and_lt 8 _ _ (xor_lt 8 _ _ h.destination (and_lt 8 _ _ h.both hs)) hd))
 
 -- one that takes nothing of a source turns bits of the destination alone
-pub wholly_alone : (w : Whole) (s d : ℕ) → bit_and w.source s ≡ 0 → bit_and w.both s ≡ 0
+pub wholly_alone : (w : Blend ℕ) (s d : ℕ) → bit_and w.source s ≡ 0 → bit_and w.both s ≡ 0
     → wholly w s d ≡ bit_xor d (bit_xor w.always (bit_and w.destination d))
 wholly_alone w s d none none' =
     let a : bit_xor w.always (bit_and w.source s) ≡ w.always = ap (bit_xor w.always) none ∙ xor_zero_r w.always in
@@ -155,7 +155,7 @@ wholly_alone w s d none none' =
     λ j. bit_xor d (bit_xor (a j) (bit_and (b j) d))
 
 -- a blend of no source
-pub wholly_none : (w : Whole) (d : ℕ) → wholly w 0 d ≡ bit_xor d (bit_xor w.always (bit_and w.destination d))
+pub wholly_none : (w : Blend ℕ) (d : ℕ) → wholly w 0 d ≡ bit_xor d (bit_xor w.always (bit_and w.destination d))
 wholly_none w d = wholly_alone w 0 d (and_zero_r w.source) (and_zero_r w.both)
 
 ones : Bitwise (λ n m s d. 2 ^ n - 1)
@@ -166,7 +166,7 @@ pub kept : (a o d : ℕ) → a < 256 → o < 256 → d < 256 → bit_xor d (bit_
 kept = agree_all (xor destination (xor mask (and source destination))) (xor mask (and (xor source ones) destination)) tt 8
 
 -- one that takes all of the source and nothing else is the source
-pub wholly_copy : (w : Whole) → w.always ≡ 0 → w.source ≡ 255 → w.destination ≡ 255 → w.both ≡ 0 → (s d : ℕ) → s < 256 → d < 256 → wholly w s d ≡ s
+pub wholly_copy : (w : Blend ℕ) → w.always ≡ 0 → w.source ≡ 255 → w.destination ≡ 255 → w.both ≡ 0 → (s d : ℕ) → s < 256 → d < 256 → wholly w s d ≡ s
 wholly_copy w none all all' none' s d hs hd =
     let whole : (x : ℕ) → x < 256 → bit_and 255 x ≡ x = λ x h. and_comm 255 x ∙ and_mask x 8 ∙ mod-eq_of_lt h in
     let a : bit_xor w.always (bit_and w.source s) ≡ s =

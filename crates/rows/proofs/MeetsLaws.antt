@@ -7,17 +7,17 @@ use Rattle.numbers.proofs.Choices.{choose_either}
 use Rattle.numbers.proofs.Fields.{field_lt}
 use Rattle.pixels.specs.Maps.{bits_of, is_motorola}
 use Rattle.pixels.specs.Inner.{place_at, shift_at}
-use Rattle.rows.specs.declared.Whole.{Whole}
+use Rattle.mixes.specs.declared.logical.Blend.{Blend}
 use Rattle.rows.specs.declared.Lane.{Lane}
 use Rattle.rows.specs.declared.patterns.Inks.{Inks}
-use Rattle.rows.specs.Inner.{along, Reach, changed, pixel_no, with_pixel_no, swept_from, Meets, Inked, inks_of, inked_by, pattern_at, row_inked, Beside}
+use Rattle.rows.specs.Inner.{along, Reach, changed, pixel_no, with_pixel_no, swept_from, Meets, Inked, inks_of, inked_by, mirror_of, pattern_at, row_inked, Beside}
 use Rattle.rows.proofs.ByteLaws.{Bytes, byte_field, byte_with, byte_place, byte_shift}
 use Rattle.rows.proofs.CarryLaws.{Masks, wholly_lt, wholly_none, kept, changed_back, changed_bytes, changed_other}
 use Rattle.rows.proofs.LiesLaws.{reach_fewer, reach_lowest}
 
 -- ---- what the inks of two blends make
 
-module _ (order : ℕ) (front rear : Whole) (f : Masks front) (r : Masks rear) where
+module _ (order : ℕ) (front rear : Blend ℕ) (f : Masks front) (r : Masks rear) where
   inked_op : (op : ℕ → ℕ → ℕ) → Inked op front rear → (s d : ℕ) → s < 2 → d < 256 → op s d % 256 ≡ inked_by (inks_of order front rear) s d
   inked_op op h zero d few small = (h d small).0 ∙ mod-eq_of_lt (wholly_lt rear r 0 d (omega arith) small) ∙ wholly_none rear d ∙ kept rear.always rear.destination d r.always r.destination small
   inked_op op h (suc zero) d few small =
@@ -26,7 +26,7 @@ module _ (order : ℕ) (front rear : Whole) (f : Masks front) (r : Masks rear) w
 
   inked_lt : (s d : ℕ) → d < 256 → inked_by (inks_of order front rear) s d < 256
   inked_lt s d small =
-      let made : (w : Whole) → Masks w → bit_xor w.always (bit_and (bit_xor w.destination 255) d) < 256 =
+      let made : (w : Blend ℕ) → Masks w → bit_xor w.always (bit_and (bit_xor w.destination 255) d) < 256 =
       λ w h. xor_lt 8 _ _ h.always (and_lt 8 _ d (xor_lt 8 _ 255 h.destination (omega arith)) small) in
       choose_either (λ (x : ℕ). x < 256) (eqb s 1) (made front f) (made rear r)
 
@@ -50,18 +50,18 @@ pattern_pixel order base x m one =
     ∙ turned (is_motorola order) (x % 8) (omega arith) in
     λ j. field (shift j) (one j) (get_or m (pattern_place order base x one j) 0)
 
-module _ (op : ℕ → ℕ → ℕ) (front rear : Whole) (inked : Inked op front rear) (f : Masks front) (r : Masks rear) (l : Lane) (order : ℕ)
+module _ (op : ℕ → ℕ → ℕ) (front rear : Blend ℕ) (inked : Inked op front rear) (f : Masks front) (r : Masks rear) (l : Lane) (order : ℕ)
     (eight : bits_of l.format ≡ 8) (one : bits_of order ≡ 1) where
   abbrev inks : Inks
   inks = inks_of order front rear
 
   pixel_inked : (x y : ℕ) (m : List ℕ) → Bytes m
       → with_pixel_no l.format l.destination y (op (pixel_no order l.source x m) (pixel_no l.format l.destination y m)) m
-      ≡ set m (l.destination + y) (inked_by inks (pattern_at inks.mirror l.source x m) (get_or m (l.destination + y) 0))
+      ≡ set m (l.destination + y) (inked_by inks (pattern_at (mirror_of inks) l.source x m) (get_or m (l.destination + y) 0))
   pixel_inked x y m bytes =
       let place = byte_place l.format l.destination y eight in
       let shift = byte_shift l.format y eight in
-      let s = pattern_at inks.mirror l.source x m in
+      let s = pattern_at (mirror_of inks) l.source x m in
       let d = get_or m (l.destination + y) 0 in
       let small : d < 256 = bytes (l.destination + y) in
       (λ j.
@@ -70,7 +70,7 @@ module _ (op : ℕ → ℕ → ℕ) (front rear : Whole) (inked : Inked op front
       ∙ ap (set m (l.destination + y))
       (byte_with _ d small
       ∙ ap (λ (b : ℕ). op s b % 256) (byte_field d small)
-      ∙ inked_op order front rear f r op inked s d (field_lt (bit_xor (x % 8) inks.mirror) 1 _) small)
+      ∙ inked_op order front rear f r op inked s d (field_lt (bit_xor (x % 8) (mirror_of inks)) 1 _) small)
 
 -- ---- from the lower end on
 
@@ -126,13 +126,13 @@ module _ (l : Lane) (order count size : ℕ) (h : Meets l order count size) wher
 -- one pixel more, at either end
 row_step : (k : Inks) (source base : ℕ) (back : Bool) (from to n end : ℕ) (m : List ℕ) → Reach back from (suc n) end → Reach back to (suc n) end
     → let M = row_inked k source (low back from n) (base + low back to n) n m in
-    set M (base + along back to n) (inked_by k (pattern_at k.mirror source (along back from n) m) (get_or M (base + along back to n) 0))
+    set M (base + along back to n) (inked_by k (pattern_at (mirror_of k) source (along back from n) m) (get_or M (base + along back to n) 0))
     ≡ row_inked k source (low back from (suc n)) (base + low back to (suc n)) (suc n) m
 unfolding changed
 row_step k source base false from to n end m reach reach' =
     let M : List ℕ = row_inked k source from (base + to) n m in
     let here : base + (to + n) ≡ base + to + n = omega arith in
-    λ j. set M (here j) (inked_by k (pattern_at k.mirror source (from + n) m) (get_or M (here j) 0))
+    λ j. set M (here j) (inked_by k (pattern_at (mirror_of k) source (from + n) m) (get_or M (here j) 0))
 row_step k source base true from to n end m reach reach' =
     let at : ℕ = base + (to + 1 - suc n) in
     let here : base + (to - n) ≡ at = omega arith in
@@ -140,12 +140,12 @@ row_step k source base true from to n end m reach reach' =
     let first : from - n ≡ from + 1 - suc n + 0 = omega arith in
     let next : (i : ℕ) → from + 1 - n + i ≡ from + 1 - suc n + suc i = λ i. omega (arith, reach.0) in
     let others : row_inked k source (from + 1 - n) (base + (to + 1 - n)) n m
-    ≡ changed (λ i d. inked_by k (pattern_at k.mirror source (from + 1 - suc n + suc i) m) d) (suc at) n m =
-    λ j. changed (λ i d. inked_by k (pattern_at k.mirror source (next i j) m) d) (above j) n m in
-    (λ j. set (others j) (here j) (inked_by k (pattern_at k.mirror source (first j) m) (get_or (others j) (here j) 0)))
-    ∙ sym (changed_back (λ i d. inked_by k (pattern_at k.mirror source (from + 1 - suc n + i) m) d) at n m)
+    ≡ changed (λ i d. inked_by k (pattern_at (mirror_of k) source (from + 1 - suc n + suc i) m) d) (suc at) n m =
+    λ j. changed (λ i d. inked_by k (pattern_at (mirror_of k) source (next i j) m) d) (above j) n m in
+    (λ j. set (others j) (here j) (inked_by k (pattern_at (mirror_of k) source (first j) m) (get_or (others j) (here j) 0)))
+    ∙ sym (changed_back (λ i d. inked_by k (pattern_at (mirror_of k) source (from + 1 - suc n + i) m) d) at n m)
 
-module _ (op : ℕ → ℕ → ℕ) (front rear : Whole) (inked : Inked op front rear) (f : Masks front) (r : Masks rear) (l : Lane) (order count : ℕ)
+module _ (op : ℕ → ℕ → ℕ) (front rear : Blend ℕ) (inked : Inked op front rear) (f : Masks front) (r : Masks rear) (l : Lane) (order count : ℕ)
     (m : List ℕ) (h : Meets l order count (length m)) (bytes : Bytes m) where
   abbrev k : Inks
   k = inks_of order front rear
@@ -155,9 +155,9 @@ module _ (op : ℕ → ℕ → ℕ) (front rear : Whole) (inked : Inked op front
 
   -- the pixel of the pattern that comes next is as it was
   stays : (n : ℕ) → n < count
-      → pattern_at k.mirror l.source (along l.back l.from n) (M n) ≡ pattern_at k.mirror l.source (along l.back l.from n) m
+      → pattern_at (mirror_of k) l.source (along l.back l.from n) (M n) ≡ pattern_at (mirror_of k) l.source (along l.back l.from n) m
   stays n less =
-      ap (field (bit_xor (along l.back l.from n % 8) k.mirror) 1)
+      ap (field (bit_xor (along l.back l.from n % 8) (mirror_of k)) 1)
       (changed_other _ (l.destination + low l.back l.to n) n _ m
       (λ i few e.
       h.lies.apart n (nth l.back n i) less (omega (arith, nth_lt l.back n i few))
@@ -170,7 +170,7 @@ module _ (op : ℕ → ℕ → ℕ) (front rear : Whole) (inked : Inked op front
       let from = along l.back l.from n in
       let to = along l.back l.to n in
       let at = l.destination + low l.back l.to n in
-      let pattern : ℕ → ℕ = λ i. pattern_at k.mirror l.source (low l.back l.from n + i) m in
+      let pattern : ℕ → ℕ = λ i. pattern_at (mirror_of k) l.source (low l.back l.from n + i) m in
       let before = swept_row n (omega arith) in
       (λ j.
       with_pixel_no l.format l.destination to

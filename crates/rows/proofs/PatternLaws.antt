@@ -6,7 +6,7 @@ use Rattle.numbers.specs.Fields.{field}
 use Rattle.numbers.proofs.Choices.{by_lt}
 use Rattle.numbers.proofs.Fields.{field_lt, one_shl}
 use Rattle.rows.specs.declared.patterns.Inks.{Inks}
-use Rattle.rows.specs.Inner.{changed, inked_by, pattern_at, row_inked, Beside}
+use Rattle.rows.specs.Inner.{changed, inked_by, mirror_of, pattern_at, row_inked, Beside}
 use Rattle.rows.proofs.WholeLaws.{masked}
 use Rattle.rows.proofs.CarryLaws.{changed_next, changed_other}
 
@@ -97,23 +97,23 @@ row_place k source n at c m first =
     let begins = first (omega arith) in
     let place : source + n / 8 + (0 + i) / 8 ≡ source + (n + i) / 8 = omega arith in
     let number : (0 + i) % 8 ≡ (n + i) % 8 = omega arith in
-    λ j. inked_by k (field (bit_xor (number j) k.mirror) 1 (get_or m (place j) 0)) d)
+    λ j. inked_by k (field (bit_xor (number j) (mirror_of k)) 1 (get_or m (place j) 0)) d)
 
 module _ (k : Inks) (source n at count : ℕ) (m : List ℕ) (h : Beside source n at count (length m)) where
   pattern_stays : (i j : ℕ) → i ≤ count → j < count
-      → pattern_at k.mirror source (n + j) (row_inked k source n at i m) ≡ pattern_at k.mirror source (n + j) m
+      → pattern_at (mirror_of k) source (n + j) (row_inked k source n at i m) ≡ pattern_at (mirror_of k) source (n + j) m
   pattern_stays i j few less =
-      ap (field (bit_xor ((n + j) % 8) k.mirror) 1)
+      ap (field (bit_xor ((n + j) % 8) (mirror_of k)) 1)
       (changed_other _ at i (source + (n + j) / 8) m (λ q small. h.apart j q less (omega arith)))
 
   -- one byte more
   pub row_next : (i : ℕ) → i < count → (now : List ℕ) → now ≡ row_inked k source n at i m
-      → set now (at + i) (inked_by k (pattern_at k.mirror source (n + i) now) (get_or now (at + i) 0)) ≡ row_inked k source n at (i + 1) m
+      → set now (at + i) (inked_by k (pattern_at (mirror_of k) source (n + i) now) (get_or now (at + i) 0)) ≡ row_inked k source n at (i + 1) m
   row_next i less now e =
       let D : List ℕ = row_inked k source n at i m in
-      (λ j. set (e j) (at + i) (inked_by k (pattern_at k.mirror source (n + i) (e j)) (get_or (e j) (at + i) 0)))
+      (λ j. set (e j) (at + i) (inked_by k (pattern_at (mirror_of k) source (n + i) (e j)) (get_or (e j) (at + i) 0)))
       ∙ ap (λ (s : ℕ). set D (at + i) (inked_by k s (get_or D (at + i) 0))) (pattern_stays i i (omega arith) less)
-      ∙ changed_next (λ i d. inked_by k (pattern_at k.mirror source (n + i) m) d) at i m D refl
+      ∙ changed_next (λ i d. inked_by k (pattern_at (mirror_of k) source (n + i) m) d) at i m D refl
 
   -- some more
   pub row_more : (i c : ℕ) → i + c ≤ count → (now made : List ℕ) → now ≡ row_inked k source n at i m
@@ -126,8 +126,8 @@ module _ (k : Inks) (source n at count : ℕ) (m : List ℕ) (h : Beside source 
       ∙ changed_alike _ _ (at + i) c D
       (λ q d less.
       ap (λ (s : ℕ). inked_by k s d)
-      (ap (λ (x : ℕ). pattern_at k.mirror source x D) (next q) ∙ pattern_stays i (i + q) (omega arith) (omega arith)))
-      ∙ sym (changed_add (λ i d. inked_by k (pattern_at k.mirror source (n + i) m) d) at i c m)
+      (ap (λ (x : ℕ). pattern_at (mirror_of k) source x D) (next q) ∙ pattern_stays i (i + q) (omega arith) (omega arith)))
+      ∙ sym (changed_add (λ i d. inked_by k (pattern_at (mirror_of k) source (n + i) m) d) at i c m)
 
   pub row_whole : (i c : ℕ) → i + c ≤ count → (0 < c → (n + i) % 8 ≡ 0) → (now made : List ℕ) → now ≡ row_inked k source n at i m
       → made ≡ row_inked k (source + (n + i) / 8) 0 (at + i) c now → made ≡ row_inked k source n at (i + c) m
@@ -136,14 +136,14 @@ module _ (k : Inks) (source n at count : ℕ) (m : List ℕ) (h : Beside source 
 -- one byte more of sixteen, by the bits of two
 pub sixteen_next : (k : Inks) (place at i : ℕ) (m now : List ℕ) → i < 16 → now ≡ row_inked k place 0 at i m
     → let pattern = choose (ltb i 8) (get_or m place 0) (get_or m (place + 1) 0) in
-    set now (at + i) (inked_by k (field (bit_xor (i % 8) k.mirror) 1 pattern) (get_or now (at + i) 0)) ≡ row_inked k place 0 at (i + 1) m
+    set now (at + i) (inked_by k (field (bit_xor (i % 8) (mirror_of k)) 1 pattern) (get_or now (at + i) 0)) ≡ row_inked k place 0 at (i + 1) m
 sixteen_next k place at i m now less e =
     let number : i % 8 ≡ (0 + i) % 8 = omega arith in
     let byte = by_lt (λ (v : ℕ). v ≡ get_or m (place + (0 + i) / 8) 0) i 8
     (λ h. let here : place ≡ place + (0 + i) / 8 = omega arith in ap (λ (q : ℕ). get_or m q 0) here)
     (λ h. let here : place + 1 ≡ place + (0 + i) / 8 = omega arith in ap (λ (q : ℕ). get_or m q 0) here) in
-    (λ j. set now (at + i) (inked_by k (field (bit_xor (number j) k.mirror) 1 (byte j)) (get_or now (at + i) 0)))
-    ∙ changed_next (λ i d. inked_by k (pattern_at k.mirror place (0 + i) m) d) at i m now e
+    (λ j. set now (at + i) (inked_by k (field (bit_xor (number j) (mirror_of k)) 1 (byte j)) (get_or now (at + i) 0)))
+    ∙ changed_next (λ i d. inked_by k (pattern_at (mirror_of k) place (0 + i) m) d) at i m now e
 
 -- sixteen bytes more, by two bytes of the pattern
 module _ (place at count i : ℕ) (less : i < count) where

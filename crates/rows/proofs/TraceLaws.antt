@@ -7,7 +7,7 @@ use Rattle.numbers.proofs.Choices.{and_left, and_right}
 use Rattle.numbers.proofs.Fields.{field_zero}
 use Rattle.pixels.specs.Maps.{bits_of, is_motorola}
 use Rattle.pixels.specs.Inner.{place_at, shift_at}
-use Rattle.rows.specs.declared.Whole.{Whole}
+use Rattle.mixes.specs.declared.logical.Blend.{Blend}
 use Rattle.rows.specs.declared.Trail.{Trail}
 use Rattle.rows.specs.declared.Traced.{Traced}
 use Rattle.rows.specs.Inner.{wholly, Alike, gone_at, pixel_no, with_pixel_no}
@@ -44,7 +44,7 @@ dot_made op whole format n d alike byte =
     ∙ with_low sh bits (op 0 (field sh bits d)) d
 
 -- where pixels are bytes, the byte itself
-pub byte_made : (op : ℕ → ℕ → ℕ) (w : Whole) (format base n : ℕ) (m : List ℕ) → bits_of format ≡ 8 → Alike format op (wholly w) → Masks w → Bytes m
+pub byte_made : (op : ℕ → ℕ → ℕ) (w : Blend ℕ) (format base n : ℕ) (m : List ℕ) → bits_of format ≡ 8 → Alike format op (wholly w) → Masks w → Bytes m
     → set m (base + n) (wholly w 0 (get_or m (base + n) 0)) ≡ with_pixel_no format base n (op 0 (pixel_no format base n m)) m
 byte_made op w format base n m eight alike masks bytes =
     let place = byte_place format base n eight in
@@ -90,7 +90,7 @@ reached_lt t g termed reached = rw reached.1 (error_lt t g.done termed.0)
 
 -- ---- from one place to another
 
-module _ (t : Trail) (w : Whole) where
+module _ (t : Trail) (w : Blend ℕ) where
   pub goes_none : (g : Traced) (m : List ℕ) → Reached t g → Goes t w g g 0 m m
   goes_none g m reached = record { onward = le_refl _; reached = reached; turned = sym (add-zero _); made = λ op m alike before. before }
 
@@ -125,7 +125,7 @@ module _ (t : Trail) (w : Whole) where
 
 -- ---- straight on
 
-module _ (t : Trail) (w : Whole) (count : ℕ) (from : Traced) (x : List ℕ) where
+module _ (t : Trail) (w : Blend ℕ) (count : ℕ) (from : Traced) (x : List ℕ) where
   -- how far a loop is gone in which no step turns
   abbrev pub Along : Traced → List ℕ → Type 0
   Along g y = (g.done ≤ count) × (length y ≡ length x) × Goes t w from g 0 x y

@@ -9,7 +9,6 @@ use Rattle.mixes.specs.Inner.{blended}
 use Rattle.mixes.proofs.Bitwise.{all_below, below}
 use Rattle.pixels.specs.Maps.{bits_of}
 use Rattle.pixels.proofs.Maps.{by_size_lem}
-use Rattle.rows.specs.declared.Whole.{Whole}
 use Rattle.rows.specs.Inner.{repeated_in, wholly, Alike}
 
 -- ---- fields
@@ -76,7 +75,7 @@ repeated_field format mask i =
 -- ---- a blend of bytes
 
 -- a mask of one pixel in each byte of a whole blend
-pub record Repeated (format : ℕ) (b : Blend) (w : Whole) : Type 0 where
+pub record Repeated (format : ℕ) (b w : Blend ℕ) : Type 0 where
   pub always : w.always ≡ repeated_in format b.always
   pub source : w.source ≡ repeated_in format b.source
   pub destination : w.destination ≡ repeated_in format b.destination
@@ -96,7 +95,7 @@ module _ (h : ℕ → ℕ) (xored : (x y : ℕ) → h (bit_xor x y) ≡ bit_xor 
       ∙ ap₂ bit_xor (xored a _ ∙ ap (bit_xor (h a)) (anded b s))
       (anded _ d ∙ ap (λ (x : ℕ). bit_and x (h d)) (xored c _ ∙ ap (bit_xor (h c)) (anded e s))))
 
-module _ (format : ℕ) (b : Blend) (w : Whole) (h : Repeated format b w) where
+module _ (format : ℕ) (b w : Blend ℕ) (h : Repeated format b w) where
   pub whole_alike : Alike format (blended (bits_of format) b) (wholly w)
   unfolding blended
   whole_alike i s d few =

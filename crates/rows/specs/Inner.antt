@@ -2,12 +2,14 @@
 use Rattle.std.specs.Prelude.{◌≡◌, ℕ, zero, suc, ◌+◌, ◌-◌, ◌*◌, ◌/◌, ◌%◌, ◌^◌, ◌<◌, ◌≤◌, Bool, true, false, not, ◌&&◌, List, set, ◌==◌, ◌≢◌, bit_and, bit_or, bit_xor, nat_lt, slice_index, slice_set}
 use Rattle.numbers.specs.Choose.{choose}
 use Rattle.numbers.specs.Fields.{field, with_field}
+use Rattle.mixes.specs.declared.logical.Blend.{Blend}
+use Rattle.mixes.specs.Inner.{turned_by}
 use Rattle.pixels.specs.Maps.{bits_of, is_motorola}
 use Rattle.pixels.specs.Inner.{place_at, shift_at}
-use Rattle.rows.specs.declared.Whole.{Whole}
 use Rattle.rows.specs.declared.Lane.{Lane}
 use Rattle.rows.specs.declared.Trail.{Trail}
 use Rattle.rows.specs.declared.Traced.{Traced}
+use Rattle.rows.specs.declared.bytes.Stretch.{Stretch}
 use Rattle.rows.specs.declared.patterns.Inks.{Inks}
 
 -- ---- bytes and the pixels in them
@@ -17,8 +19,8 @@ unfoldable pub repeated_in : (format mask : ℕ) → ℕ
 repeated_in format mask = mask % 2 ^ bits_of format * (255 / (2 ^ bits_of format - 1))
 
 -- the byte that a blend of bytes makes of two
-abbrev pub wholly : Whole → ℕ → ℕ → ℕ
-wholly w s d = bit_xor d (bit_xor (bit_xor w.always (bit_and w.source s)) (bit_and (bit_xor w.destination (bit_and w.both s)) d))
+abbrev pub wholly : Blend ℕ → ℕ → ℕ → ℕ
+wholly w s d = bit_xor d (turned_by w s d)
 
 -- what an operation of bytes does to each pixel in them is an operation of pixels
 abbrev pub Alike : (format : ℕ) → (op whole : ℕ → ℕ → ℕ) → Type 0
@@ -50,6 +52,14 @@ carried op back from to zero memory = memory
 carried op back from to (suc n) memory =
     set (carried op back from to n memory) (along back to n)
     (op (slice_index (carried op back from to n memory) (along back from n)) (slice_index (carried op back from to n memory) (along back to n)))
+
+-- a stretch of bytes and those that they are made of lie in a memory
+abbrev pub Held : Stretch → (size : ℕ) → Type 0
+Held on size = Reach on.back on.from on.count size × Reach on.back on.to on.count size
+
+-- all of them, each made of one and itself
+abbrev pub made : (op : ℕ → ℕ → ℕ) → Stretch → List ℕ → List ℕ
+made op on = carried op on.back on.from on.to on.count
 
 -- pixel number n, and memory with another one there
 abbrev pub pixel_no : (format base n : ℕ) → List ℕ → ℕ
@@ -179,7 +189,7 @@ traced op t (suc i) memory =
     with_pixel_no t.format t.base (number_at t i) (op (pixel_no t.format t.base (number_at t i) (traced op t i memory))) (traced op t i memory)
 
 -- pixel number n made of itself, by a blend that takes nothing from a source
-abbrev pub Dotted : (format base n : ℕ) → Whole → (before after : List ℕ) → Type 0
+abbrev pub Dotted : (format base n : ℕ) → Blend ℕ → (before after : List ℕ) → Type 0
 Dotted format base n w before after =
     (op : ℕ → ℕ → ℕ) → Alike format op (wholly w) → after ≡ with_pixel_no format base n (op 0 (pixel_no format base n before)) before
 
@@ -203,7 +213,7 @@ pub record Stands (t : Trail) (count : ℕ) (g : Traced) (size : ℕ) : Type 0 w
   pub lies : (i : ℕ) → i < count → turns_at t i ≤ turns_at t g.done → place_at t.format t.base (number_at t i) < size
 
 -- a trail goes on from one place to another: it turns so many times, and makes the pixels between
-pub record Goes (t : Trail) (w : Whole) (from to : Traced) (turns : ℕ) (before after : List ℕ) : Type 0 where
+pub record Goes (t : Trail) (w : Blend ℕ) (from to : Traced) (turns : ℕ) (before after : List ℕ) : Type 0 where
   pub onward : from.done ≤ to.done
   pub reached : Reached t to
   pub turned : turns_at t to.done ≡ turns_at t from.done + turns
@@ -211,7 +221,7 @@ pub record Goes (t : Trail) (w : Whole) (from to : Traced) (turns : ℕ) (before
       → before ≡ traced (op 0) t from.done m → after ≡ traced (op 0) t to.done m
 
 -- the same, without a turn up to the next one, or to the last of so many pixels
-abbrev pub Straight : Trail → Whole → (count : ℕ) → (from to : Traced) → (before after : List ℕ) → Type 0
+abbrev pub Straight : Trail → Blend ℕ → (count : ℕ) → (from to : Traced) → (before after : List ℕ) → Type 0
 Straight t w count from to before after = (to.done ≤ count) × (to.done < count → 8192 ≤ to.e) × Goes t w from to 0 before after
 
 -- ---- pixels of 8 bits, inked by a pattern of 1 bit
@@ -223,19 +233,23 @@ pub record Meets (l : Lane) (order n size : ℕ) : Type 0 where
   pub lies : ApartFrom order l n size
 
 -- an operation is the rear's blend where the pattern is 0, and the front's where it is 1
-abbrev pub Inked : (op : ℕ → ℕ → ℕ) → (front rear : Whole) → Type 0
+abbrev pub Inked : (op : ℕ → ℕ → ℕ) → (front rear : Blend ℕ) → Type 0
 Inked op front rear = (d : ℕ) → d < 256 → (op 0 d % 256 ≡ wholly rear 0 d % 256) × (op 1 d % 256 ≡ wholly front 0 d % 256)
 
 -- what two blends make of pixels, by a pattern in this order
-abbrev pub inks_of : (order : ℕ) → (front rear : Whole) → Inks
+abbrev pub inks_of : (order : ℕ) → (front rear : Blend ℕ) → Inks
 inks_of order front rear =
     record {
       front_always = front.always;
       front_keeps = bit_xor front.destination 255;
       rear_always = rear.always;
       rear_keeps = bit_xor rear.destination 255;
-      mirror = choose (is_motorola order) 7 0;
+      motorola = is_motorola order;
     }
+
+-- what turns over a pixel's number within a byte of the pattern
+abbrev pub mirror_of : Inks → ℕ
+mirror_of k = choose k.motorola 7 0
 
 -- the byte that a pixel of a pattern makes of one
 abbrev pub inked_by : Inks → (s d : ℕ) → ℕ
@@ -248,7 +262,7 @@ pattern_at mirror source n memory = field (bit_xor (n % 8) mirror) 1 (slice_inde
 
 -- so many bytes from `at` on, inked by a pattern from its pixel number n on, as it was
 abbrev pub row_inked : Inks → (source n at count : ℕ) → List ℕ → List ℕ
-row_inked k source n at count memory = changed (λ i d. inked_by k (pattern_at k.mirror source (n + i) memory) d) at count memory
+row_inked k source n at count memory = changed (λ i d. inked_by k (pattern_at (mirror_of k) source (n + i) memory) d) at count memory
 
 -- so many bytes from `at` on and a pattern from its pixel number n on lie in a memory, apart
 pub record Beside (source n at count size : ℕ) : Type 0 where

@@ -1,70 +1,54 @@
 // Bytes of a lent slice made one after another, in loops that the compiler can make wide: nothing is asked in them.
 
-ghost use Rattle.std.specs.Prelude.{◌≡◌, ◌+◌, ◌-◌, ◌^◌, ◌<◌, ◌≤◌, true, false, ◌&&◌, length, ◌==◌, bit_and, bit_xor};
+ghost use Rattle.std.specs.Prelude.{◌≡◌, ℕ, ◌+◌, ◌-◌, ◌^◌, ◌<◌, ◌≤◌, true, ◌&&◌, length, ◌==◌};
 ghost use Rattle.numbers.specs.Choose.{choose};
-ghost use Rattle.rows.specs.Inner.{wholly, Reach, changed, carried};
+ghost use Rattle.mixes.specs.Inner.{Gives};
+ghost use Rattle.rows.specs.Inner.{wholly, along, Reach, Held, made};
 
 use crate::Whole;
 use crate::wholes::blend_bytes;
 
-// Each byte with some bits turned always, and some where they are 1.
-fn wash(memory: &mut [u8], at: usize, count: usize, always: u8, ones: u8)
-    requires { at + count ≤ length memory.old }
-    ensures { memory.new ≡ changed (λ i d. bit_xor d (bit_xor always (bit_and ones d))) at count memory.old }
+// So many bytes, back or forth from the place `to` on, and as many that they are made of, from the place `from` on.
+#[derive(Clone, Copy)]
+pub(crate) struct Stretch {
+    pub(crate) back: bool,
+    pub(crate) from: usize,
+    pub(crate) to: usize,
+    pub(crate) count: usize,
+}
+
+// The i-th place from one on, back or forth.
+#[inline(always)]
+pub(crate) fn place(back: bool, n: usize, i: usize) -> usize
+    requires { Reach back n (i + 1) (2 ^ 64) }
+    ensures { result ≡ along back n i }
 {
-    let mut i: usize = 0;
-    while i < count {
-        let d = memory[at + i];
-        memory[at + i] = d ^ (always ^ (ones & d));
-        i += 1;
+    if back { n - i } else { n + i }
+}
+
+// Bytes made one after another, each of its source and itself; where the two ranges meet, later ones read what earlier ones wrote.
+// Each call knows the direction, so that nothing is asked in the loop. A const parameter would say so, but no proof of one beside a
+// closure's bound is built.
+#[inline(always)]
+fn make<F: Fn(u8, u8) -> u8>(memory: &mut [u8], byte: F, on: Stretch)
+    requires { F.IsAlwaysCallable byte × Held on (length memory.old) }
+    ensures { (op : ℕ → ℕ → ℕ) → Gives (F.post byte) op → memory.new ≡ made op on memory.old }
+{
+    for i in 0..on.count {
+        let at = place(on.back, on.to, i);
+        memory[at] = byte(memory[place(on.back, on.from, i)], memory[at]);
     }
 }
 
-// Bytes copied forth; where the two ranges meet, later ones read what earlier ones wrote.
-fn copy_forth(memory: &mut [u8], from: usize, to: usize, count: usize)
-    requires { Reach false from count (length memory.old) × Reach false to count (length memory.old) }
-    ensures { memory.new ≡ carried (λ s d. s) false from to count memory.old }
+// The same, in a direction that is known only now.
+fn make_along<F: Fn(u8, u8) -> u8>(memory: &mut [u8], byte: F, on: Stretch)
+    requires { F.IsAlwaysCallable byte × Held on (length memory.old) }
+    ensures { (op : ℕ → ℕ → ℕ) → Gives (F.post byte) op → memory.new ≡ made op on memory.old }
 {
-    let mut i: usize = 0;
-    while i < count {
-        memory[to + i] = memory[from + i];
-        i += 1;
-    }
-}
-
-// Bytes copied back, the last first.
-fn copy_back(memory: &mut [u8], from: usize, to: usize, count: usize)
-    requires { Reach true from count (length memory.old) × Reach true to count (length memory.old) }
-    ensures { memory.new ≡ carried (λ s d. s) true from to count memory.old }
-{
-    let mut i: usize = 0;
-    while i < count {
-        memory[to - i] = memory[from - i];
-        i += 1;
-    }
-}
-
-// Bytes blended forth with those of another range.
-fn blend_forth(memory: &mut [u8], whole: Whole, from: usize, to: usize, count: usize)
-    requires { Reach false from count (length memory.old) × Reach false to count (length memory.old) }
-    ensures { memory.new ≡ carried (wholly whole) false from to count memory.old }
-{
-    let mut i: usize = 0;
-    while i < count {
-        memory[to + i] = blend_bytes(whole, memory[from + i], memory[to + i]);
-        i += 1;
-    }
-}
-
-// Bytes blended back with those of another range.
-fn blend_back(memory: &mut [u8], whole: Whole, from: usize, to: usize, count: usize)
-    requires { Reach true from count (length memory.old) × Reach true to count (length memory.old) }
-    ensures { memory.new ≡ carried (wholly whole) true from to count memory.old }
-{
-    let mut i: usize = 0;
-    while i < count {
-        memory[to - i] = blend_bytes(whole, memory[from - i], memory[to - i]);
-        i += 1;
+    if on.back {
+        make(memory, byte, Stretch { back: true, ..on });
+    } else {
+        make(memory, byte, Stretch { back: false, ..on });
     }
 }
 
@@ -90,48 +74,27 @@ pub(crate) fn lowest(back: bool, from: usize, count: usize) -> usize
     if back { from + 1 - count } else { from }
 }
 
-// Bytes copied, back or forth.
-fn copy(memory: &mut [u8], back: bool, from: usize, to: usize, count: usize)
-    requires { Reach back from count (length memory.old) × Reach back to count (length memory.old) }
-    ensures { memory.new ≡ carried (λ s d. s) back from to count memory.old }
-{
-    if back {
-        copy_back(memory, from, to, count);
-    } else {
-        copy_forth(memory, from, to, count);
-    }
-}
-
-// Bytes blended with those of another range, back or forth.
-fn blend(memory: &mut [u8], whole: Whole, back: bool, from: usize, to: usize, count: usize)
-    requires { Reach back from count (length memory.old) × Reach back to count (length memory.old) }
-    ensures { memory.new ≡ carried (wholly whole) back from to count memory.old }
-{
-    if back {
-        blend_back(memory, whole, from, to, count);
-    } else {
-        blend_forth(memory, whole, from, to, count);
-    }
-}
-
-// The same, by the shortest loop that does it: of bytes that take nothing from the others, or that are the others, or of any.
-pub(crate) fn carry(
-    memory: &mut [u8],
-    whole: Whole,
-    back: bool,
-    from: usize,
-    to: usize,
-    count: usize,
-)
-    requires { Reach back from count (length memory.old) × Reach back to count (length memory.old) }
-    ensures { memory.new ≡ carried (wholly whole) back from to count memory.old }
+// Bytes blended with their sources, by the shortest loop that does it: of bytes that take nothing from them, or that are as they are, or
+// of any.
+pub(crate) fn carry(memory: &mut [u8], whole: Whole, on: Stretch)
+    requires { Held on (length memory.old) }
+    ensures { memory.new ≡ made (wholly whole) on memory.old }
 {
     if is_solid(whole) {
-        let first = lowest(back, to, count);
-        wash(memory, first, count, whole.always, whole.destination);
+        let first = lowest(on.back, on.to, on.count);
+        make(
+            memory,
+            move |_, d| d ^ (whole.always ^ (whole.destination & d)),
+            Stretch {
+                back: false,
+                from: first,
+                to: first,
+                ..on
+            },
+        );
     } else if is_copy(whole) {
-        copy(memory, back, from, to, count);
+        make_along(memory, |s, _| s, on);
     } else {
-        blend(memory, whole, back, from, to, count);
+        make_along(memory, move |s, d| blend_bytes(whole, s, d), on);
     }
 }

@@ -2,6 +2,7 @@
 #![tactic(auto)]
 
 mod bytes;
+mod lanes;
 pub mod patterns;
 pub mod ranges;
 pub mod slides;
@@ -9,14 +10,10 @@ pub mod sweeps;
 pub mod traces;
 pub mod wholes;
 
-// A blend of every pixel in a byte at once: what `Blend` is to one pixel.
-#[derive(Clone, Copy)]
-pub struct Whole {
-    pub always: u8,
-    pub source: u8,
-    pub destination: u8,
-    pub both: u8,
-}
+use mixes::logical::Blend;
+
+// A blend of every pixel in a byte at once.
+pub type Whole = Blend<u8>;
 
 // Pixels of one format, one after another, back or forth: from the pixel number `from` of a map that begins at `source`, to the
 // pixel number `to` of one that begins at `destination`.

@@ -3,20 +3,29 @@
 ghost use Rattle.std.specs.Prelude.{◌≡◌, ℕ, ◌+◌, ◌*◌, ◌%◌, ◌<◌, ◌≤◌, length};
 ghost use Rattle.numbers.specs.Choose.{choose};
 ghost use Rattle.numbers.specs.Fields.{field};
-ghost use Rattle.pixels.specs.Maps.{is_motorola};
-ghost use Rattle.rows.specs.Inner.{swept_from, Meets, Inked, inked_by, inks_of, row_inked, Beside};
+ghost use Rattle.rows.specs.Inner.{swept_from, Meets, Inked, inked_by, inks_of, mirror_of, row_inked, Beside};
 
 use crate::bytes::lowest;
 use crate::{Lane, Whole};
+use pixels::is_motorola;
 
-// What two blends turn always, and what they keep of a byte; and what turns over a pixel's number within a byte of the pattern.
+// What two blends turn always, and what they keep of a byte; and whether the pattern is in Motorola order.
 #[derive(Clone, Copy)]
 struct Inks {
     front_always: u8,
     front_keeps: u8,
     rear_always: u8,
     rear_keeps: u8,
-    mirror: usize,
+    motorola: bool,
+}
+
+impl Inks {
+    // What turns over a pixel's number within a byte of the pattern: in Motorola order the first pixel is the byte's highest.
+    fn mirror(self) -> usize
+        ensures { (result ≡ mirror_of self) × (result < 8) }
+    {
+        if self.motorola { 7 } else { 0 }
+    }
 }
 
 // One of two bytes.
@@ -39,42 +48,39 @@ fn ink(inks: Inks, pattern: u8, shift: usize, d: u8) -> u8
 
 // Bytes inked by the pattern from its pixel number n on, one by one.
 fn dots(memory: &mut [u8], inks: Inks, source: usize, n: usize, at: usize, count: usize)
-    requires { Beside source n at count (length memory.old) × (inks.mirror < 8) }
+    requires { Beside source n at count (length memory.old) }
     ensures { memory.new ≡ row_inked inks source n at count memory.old }
 {
-    let mut i: usize = 0;
-    while i < count {
+    let mirror = inks.mirror();
+    for i in 0..count {
         let number = n + i;
         let pattern = memory[source + number / 8];
-        memory[at + i] = ink(inks, pattern, (number % 8) ^ inks.mirror, memory[at + i]);
-        i += 1;
+        memory[at + i] = ink(inks, pattern, (number % 8) ^ mirror, memory[at + i]);
     }
 }
 
-// Sixteen bytes, inked by two, in a loop of fixed length that the compiler can make one wide step.
+// Sixteen bytes, inked by two. It is not the loop above: with the two bytes read before it and its length fixed the compiler can make it
+// one wide step.
 fn sixteen(memory: &mut [u8], inks: Inks, place: usize, at: usize)
-    requires { Beside place 0 at 16 (length memory.old) × (inks.mirror < 8) }
+    requires { Beside place 0 at 16 (length memory.old) }
     ensures { memory.new ≡ row_inked inks place 0 at 16 memory.old }
 {
     let first = memory[place];
     let second = memory[place + 1];
-    let mut i: usize = 0;
-    while i < 16 {
+    let mirror = inks.mirror();
+    for i in 0..16 {
         let pattern = either(i < 8, first, second);
-        memory[at + i] = ink(inks, pattern, (i % 8) ^ inks.mirror, memory[at + i]);
-        i += 1;
+        memory[at + i] = ink(inks, pattern, (i % 8) ^ mirror, memory[at + i]);
     }
 }
 
 // So many times sixteen bytes.
 fn sixteens(memory: &mut [u8], inks: Inks, place: usize, at: usize, count: usize)
-    requires { Beside place 0 at (count * 16) (length memory.old) × (inks.mirror < 8) }
+    requires { Beside place 0 at (count * 16) (length memory.old) }
     ensures { memory.new ≡ row_inked inks place 0 at (count * 16) memory.old }
 {
-    let mut i: usize = 0;
-    while i < count {
+    for i in 0..count {
         sixteen(memory, inks, place + i * 2, at + i * 16);
-        i += 1;
     }
 }
 
@@ -88,7 +94,7 @@ fn lead(n: usize, count: usize) -> usize
 
 // The same: one by one to where a byte of the pattern begins, then sixteen at once, and one by one.
 fn row(memory: &mut [u8], inks: Inks, source: usize, n: usize, at: usize, count: usize)
-    requires { Beside source n at count (length memory.old) × (inks.mirror < 8) × (0 < count) }
+    requires { Beside source n at count (length memory.old) × (0 < count) }
     ensures { memory.new ≡ row_inked inks source n at count memory.old }
 {
     let before = lead(n, count);
@@ -97,13 +103,6 @@ fn row(memory: &mut [u8], inks: Inks, source: usize, n: usize, at: usize, count:
     sixteens(memory, inks, source + (n + before) / 8, at + before, whole);
     let done = before + whole * 16;
     dots(memory, inks, source, n + done, at + done, count - done);
-}
-
-// What turns over a pixel's number within a byte: in Motorola order the first pixel is the byte's highest.
-fn mirror_of(order: u8) -> usize
-    ensures { result ≡ choose (is_motorola order) 7 0 }
-{
-    if order / 8 % 2 == 1 { 7 } else { 0 }
 }
 
 // What two blends make of pixels, by a pattern in this order.
@@ -115,7 +114,7 @@ fn inks_of(order: u8, front: Whole, rear: Whole) -> Inks
         front_keeps: front.destination ^ 255,
         rear_always: rear.always,
         rear_keeps: rear.destination ^ 255,
-        mirror: mirror_of(order),
+        motorola: is_motorola(order),
     }
 }
 

@@ -5,7 +5,6 @@ ghost use Rattle.pixels.specs.Inner.{place_at};
 ghost use Rattle.rows.specs.Inner.{along, Reach};
 
 use crate::Lane;
-use crate::slides::source_end;
 
 // Whether every byte of so many pixels that one lane takes lies below all those of another.
 fn is_below(a: Lane, b: Lane, count: u32) -> bool
@@ -13,8 +12,8 @@ fn is_below(a: Lane, b: Lane, count: u32) -> bool
     ensures { result ≡ true → (i j : ℕ) → i < count → j < count
         → place_at a.format a.source (along a.back a.from i) < place_at b.format b.source (along b.back b.from j) }
 {
-    let highest = source_end(a, !a.back, count);
-    let lowest = source_end(b, b.back, count);
+    let highest = a.source_end(!a.back, count);
+    let lowest = b.source_end(b.back, count);
     highest < lowest
 }
 
@@ -27,19 +26,12 @@ pub fn is_apart(lane: Lane, order: u8, count: u32) -> bool
 {
     let taken = Lane {
         format: order,
-        back: lane.back,
-        source: lane.source,
-        destination: lane.destination,
-        from: lane.from,
-        to: lane.to,
+        ..lane
     };
     let made = Lane {
-        format: lane.format,
-        back: lane.back,
         source: lane.destination,
-        destination: lane.source,
         from: lane.to,
-        to: lane.from,
+        ..lane
     };
     is_below(taken, made, count) | is_below(made, taken, count)
 }

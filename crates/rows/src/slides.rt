@@ -3,10 +3,10 @@
 ghost use Rattle.std.specs.Prelude.{◌≡◌, ℕ, ◌+◌, ◌*◌, ◌/◌, ◌^◌, ◌<◌, ◌≤◌, false, length, ◌≢◌};
 ghost use Rattle.pixels.specs.Maps.{bits_of};
 ghost use Rattle.pixels.specs.Inner.{shift_at};
-ghost use Rattle.rows.specs.Inner.{wholly, Alike, Reach, swept, First, Passed, Apart, joined, slid, Turned, source_end};
+ghost use Rattle.rows.specs.Inner.{wholly, Alike, Reach, swept, First, Passed, Apart, joined, slid, Turned};
 
 use crate::bytes::lowest;
-use crate::sweeps::{bytes_in, edge_from, gone, is_from_top, lead, mend, onward, pixels_in, step};
+use crate::sweeps::mend;
 use crate::wholes::blend_bytes;
 use crate::{Lane, Whole};
 use pixels::{bits_of, place_at, shift_at};
@@ -32,21 +32,10 @@ fn slide_forth(
     requires { ((0 < down) × (down < 8)) × (low + count ≤ length memory.old) × (high + count ≤ length memory.old) × (to + count ≤ length memory.old) }
     ensures { memory.new ≡ slid (wholly whole) down false low high to count memory.old }
 {
-    let mut i: usize = 0;
-    while i < count {
+    for i in 0..count {
         let s = join(memory[low + i], memory[high + i], down);
         memory[to + i] = blend_bytes(whole, s, memory[to + i]);
-        i += 1;
     }
-}
-
-// The byte of the first or the last of so many pixels that a lane takes.
-pub(crate) fn source_end(lane: Lane, last: bool, count: u32) -> usize
-    requires { (0 < count) × Reach lane.back lane.from count (2 ^ 32) }
-    ensures { result ≡ source_end lane last count }
-{
-    let i: u32 = if last { count - 1 } else { 0 };
-    place_at(lane.format, lane.source, step(lane.back, lane.from, i))
 }
 
 // The first pixels of a lane, which lie in one byte behind those that are passed.
@@ -60,16 +49,16 @@ fn slide_edge(memory: &mut [u8], lane: Lane, whole: Whole, down: u32, passed: u3
     if count == 0 {
         return;
     }
-    let top = is_from_top(lane.back, lane.format);
-    let low = source_end(lane, top, count);
-    let high = source_end(lane, !top, count);
+    let top = lane.is_from_top();
+    let low = lane.source_end(top, count);
+    let high = lane.source_end(!top, count);
     let s = join(memory[low], memory[high], down);
     mend(
         memory,
         whole,
         s,
         place_at(lane.format, lane.destination, lane.to),
-        edge_from(lane.back, lane.format, passed, count),
+        lane.edge_from(passed, count),
         count * bits_of(lane.format),
     );
 }
@@ -85,10 +74,10 @@ fn slide_whole(memory: &mut [u8], lane: Lane, whole: Whole, down: u32, bytes: u3
     if bytes == 0 {
         return;
     }
-    let top = is_from_top(lane.back, lane.format);
-    let per = pixels_in(lane.format, 1);
-    let low = source_end(lane, top, per);
-    let high = source_end(lane, !top, per);
+    let top = lane.is_from_top();
+    let per = lane.pixels_in(1);
+    let low = lane.source_end(top, per);
+    let high = lane.source_end(!top, per);
     let to = place_at(lane.format, lane.destination, lane.to);
     let count = bytes as usize;
     slide_forth(
@@ -107,11 +96,11 @@ fn slide_bytes(memory: &mut [u8], lane: Lane, whole: Whole, down: u32, count: u3
     requires { Apart lane count (length memory.old) × Turned lane down × First lane.back lane.format lane.to }
     ensures { (op : ℕ → ℕ → ℕ) → Alike lane.format op (wholly whole) → memory.new ≡ swept op lane count memory.old }
 {
-    let bytes = bytes_in(lane.format, count);
+    let bytes = lane.bytes_in(count);
     slide_whole(memory, lane, whole, down, bytes);
-    let done = pixels_in(lane.format, bytes);
+    let done = lane.pixels_in(bytes);
     if done < count {
-        slide_edge(memory, onward(lane, done), whole, down, 0, count - done);
+        slide_edge(memory, lane.onward(done), whole, down, 0, count - done);
     }
 }
 
@@ -120,11 +109,11 @@ fn slide_down(memory: &mut [u8], lane: Lane, whole: Whole, down: u32, count: u32
     requires { Apart lane count (length memory.old) × Turned lane down }
     ensures { (op : ℕ → ℕ → ℕ) → Alike lane.format op (wholly whole) → memory.new ≡ swept op lane count memory.old }
 {
-    let before = lead(lane.back, lane.format, lane.to, count);
-    let passed = gone(lane.back, lane.format, lane.to);
+    let before = lane.lead(count);
+    let passed = lane.gone();
     slide_edge(memory, lane, whole, down, passed, before);
     if before < count {
-        slide_bytes(memory, onward(lane, before), whole, down, count - before);
+        slide_bytes(memory, lane.onward(before), whole, down, count - before);
     }
 }
 

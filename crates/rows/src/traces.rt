@@ -1,7 +1,6 @@
 // Single pixels, each a step from the one before.
 
 ghost use Rattle.std.specs.Prelude.{◌≡◌, ℕ, ◌+◌, ◌^◌, ◌<◌, ◌≤◌, true, length};
-ghost use Rattle.numbers.specs.Choose.{choose};
 ghost use Rattle.pixels.specs.Maps.{bits_of};
 ghost use Rattle.pixels.specs.Inner.{place_at};
 ghost use Rattle.rows.specs.Inner.{wholly, Alike, pixel_no, with_pixel_no, Dotted};
@@ -28,7 +27,7 @@ fn byte(memory: &mut [u8], base: u32, whole: Whole, n: u32)
     memory[at] = alone(whole, memory[at]);
 }
 
-// The same of a map of any pixels, as a part of a byte.
+// The same of a map of any pixels, as a part of a byte. Format, base and number stand here as `pixels::place_at` asks for them.
 fn part(memory: &mut [u8], format: u8, base: u32, whole: Whole, n: u32)
     requires { place_at format base n < length memory.old }
     ensures { Dotted format base n whole memory.old memory.new }
@@ -56,55 +55,56 @@ pub fn dot(memory: &mut [u8], format: u8, base: u32, whole: Whole, n: u32)
     }
 }
 
-// One step more, by this stride and this term.
-fn step(gone: Traced, stride: u32, term: u32) -> Traced
-    requires { (gone.e < 16384) × (term < 16384) × (gone.done + 1 < 2 ^ 32) }
-    ensures { result ≡ stepped gone stride term }
-{
-    Traced {
-        at: wrapping_add_u32(gone.at, stride),
-        e: (gone.e + term) % 16384,
-        done: gone.done + 1,
+impl Traced {
+    // One step more, by this stride and this term.
+    fn step(self, stride: u32, term: u32) -> Traced
+        requires { (self.e < 16384) × (term < 16384) × (self.done + 1 < 2 ^ 32) }
+        ensures { result ≡ stepped self stride term }
+    {
+        Traced {
+            at: wrapping_add_u32(self.at, stride),
+            e: (self.e + term) % 16384,
+            done: self.done + 1,
+        }
+    }
+
+    // Whether there is a next pixel, and the step to it does not turn.
+    fn is_straight(self, count: u32) -> bool
+        ensures { result ≡ straight_on self count }
+    {
+        (self.done < count) & (self.e < 8192)
     }
 }
 
-// Whether there is a next pixel, and the step to it does not turn.
-fn is_straight(gone: Traced, count: u32) -> bool
-    ensures { result ≡ straight_on gone count }
-{
-    (gone.done < count) & (gone.e < 8192)
-}
-
-// The step to it.
-fn ahead(trail: Trail, gone: Traced) -> Traced
-    requires { (gone.e < 16384) × Termed trail × (gone.done + 1 < 2 ^ 32) }
-    ensures { result ≡ stepped gone trail.straight trail.k1 }
-{
-    step(gone, trail.straight, trail.k1)
-}
-
-// The pixels up to the next turn, where they are whole bytes.
-fn straight_bytes(memory: &mut [u8], trail: Trail, whole: Whole, from: Traced, count: u32) -> Traced
-    requires { (bits_of trail.format ≡ 8) × Stands trail count from (length memory.old) }
-    ensures { Straight trail whole count from result memory.old memory.new }
-{
-    let mut gone = from;
-    while is_straight(gone, count) {
-        byte(memory, trail.base, whole, gone.at);
-        gone = ahead(trail, gone);
+impl Trail {
+    // The step that does not turn.
+    fn ahead(self, gone: Traced) -> Traced
+        requires { (gone.e < 16384) × Termed self × (gone.done + 1 < 2 ^ 32) }
+        ensures { result ≡ stepped gone self.straight self.k1 }
+    {
+        gone.step(self.straight, self.k1)
     }
-    gone
 }
 
-// The same of any pixels.
-fn straight_parts(memory: &mut [u8], trail: Trail, whole: Whole, from: Traced, count: u32) -> Traced
-    requires { Stands trail count from (length memory.old) }
+// The pixels up to the next turn, each a whole byte, or each of any bits.
+fn straight_by<const BYTES: bool>(
+    memory: &mut [u8],
+    trail: Trail,
+    whole: Whole,
+    from: Traced,
+    count: u32,
+) -> Traced
+    requires { (BYTES ≡ true → bits_of trail.format ≡ 8) × Stands trail count from (length memory.old) }
     ensures { Straight trail whole count from result memory.old memory.new }
 {
     let mut gone = from;
-    while is_straight(gone, count) {
-        part(memory, trail.format, trail.base, whole, gone.at);
-        gone = ahead(trail, gone);
+    while gone.is_straight(count) {
+        if BYTES {
+            byte(memory, trail.base, whole, gone.at);
+        } else {
+            part(memory, trail.format, trail.base, whole, gone.at);
+        }
+        gone = trail.ahead(gone);
     }
     gone
 }
@@ -115,34 +115,23 @@ fn straight(memory: &mut [u8], trail: Trail, whole: Whole, from: Traced, count: 
     ensures { Straight trail whole count from result memory.old memory.new }
 {
     if bits_of(trail.format) == 8 {
-        straight_bytes(memory, trail, whole, from, count)
+        straight_by::<true>(memory, trail, whole, from, count)
     } else {
-        straight_parts(memory, trail, whole, from, count)
+        straight_by::<false>(memory, trail, whole, from, count)
     }
 }
 
-// The pixel at a turn, if it is to be made.
-fn bend(memory: &mut [u8], trail: Trail, whole: Whole, from: Traced, more: bool) -> Traced
+// The pixel at a turn, and the step that turns.
+fn bend(memory: &mut [u8], trail: Trail, whole: Whole, from: Traced) -> Traced
     requires { Termed trail
         × Reached trail from
-        × (more ≡ true → (from.done + 1 < 2 ^ 32) × (8192 ≤ from.e) × (place_at trail.format trail.base from.at < length memory.old)) }
-    ensures { (result.done ≡ from.done + choose more 1 0)
-        × Goes trail whole from result (choose more 1 0) memory.old memory.new }
+        × (from.done + 1 < 2 ^ 32)
+        × (8192 ≤ from.e)
+        × (place_at trail.format trail.base from.at < length memory.old) }
+    ensures { (result.done ≡ from.done + 1) × Goes trail whole from result 1 memory.old memory.new }
 {
-    if more {
-        dot(memory, trail.format, trail.base, whole, from.at);
-        step(from, trail.turned, trail.k2)
-    } else {
-        from
-    }
-}
-
-// The turns that are left behind it.
-fn left_after(more: bool, left: u32) -> u32
-    requires { more ≡ true → 0 < left }
-    ensures { result + choose more 1 0 ≡ left }
-{
-    if more { left - 1 } else { left }
+    dot(memory, trail.format, trail.base, whole, from.at);
+    from.step(trail.turned, trail.k2)
 }
 
 // The first pixels of a trail, as many as are asked, or fewer where another turn would be one too many.
@@ -161,13 +150,12 @@ pub fn trace(memory: &mut [u8], trail: Trail, whole: Whole, count: u32, turns: u
         e: trail.e,
         done: 0,
     };
-    let mut left = turns;
-    let mut more = true;
-    while more {
+    for _ in 0..turns {
         gone = straight(memory, trail, whole, gone, count);
-        more = (gone.done < count) & (0 < left);
-        gone = bend(memory, trail, whole, gone, more);
-        left = left_after(more, left);
+        if gone.done == count {
+            return gone;
+        }
+        gone = bend(memory, trail, whole, gone);
     }
-    gone
+    straight(memory, trail, whole, gone, count)
 }

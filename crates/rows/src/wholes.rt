@@ -8,7 +8,7 @@ ghost use Rattle.rows.specs.Inner.{repeated_in, wholly, Alike};
 use crate::Whole;
 use mixes::logical::Blend;
 
-// A pixel's mask, repeated over a byte.
+// A pixel's mask, repeated over a byte. The size is the format's own number, whose four values these are.
 fn repeated(format: u8, mask: u32) -> u8
     ensures { result ≡ repeated_in format mask }
 {
@@ -22,7 +22,7 @@ fn repeated(format: u8, mask: u32) -> u8
 }
 
 // The blend of bytes that is this one of every pixel in them.
-pub fn whole_of(format: u8, blend: Blend) -> Whole
+pub fn whole_of(format: u8, blend: Blend<u32>) -> Whole
     ensures { Alike format (blended (bits_of format) blend) (wholly result) }
 {
     Whole {
@@ -37,5 +37,5 @@ pub fn whole_of(format: u8, blend: Blend) -> Whole
 pub(crate) fn blend_bytes(whole: Whole, s: u8, d: u8) -> u8
     ensures { result ≡ wholly whole s d }
 {
-    d ^ ((whole.always ^ (whole.source & s)) ^ ((whole.destination ^ (whole.both & s)) & d))
+    whole.of(s, d)
 }

@@ -1,21 +1,25 @@
 -- Up to the first 00 every code counts, so the sum over the codes splits at any code before it.
 use mathlib.Core.Path.{◌≡◌, refl}
-use mathlib.Core.Bool.{true, false, and-false}
-use mathlib.Core.Logic.{⊎_elim}
-use Prim.Native.Nat.{ℕ, zero, suc, ◌+◌, ◌<◌}
-use native.Mathlib.Nat.{suc-add, add-suc, zero-add, le_of_suc-le-suc, eq-or-lt_of_le}
+use mathlib.Core.Bool.{true, false, not, ◌&&◌}
+use Prim.Native.Nat.{ℕ, zero, suc, ◌+◌}
+use native.Mathlib.Nat.{suc-add, add-suc, zero-add}
 use native.Mathlib.Numerals.{add-one}
 use native.Mathlib.Omega.{arith}
+use borrow.Author.Rules.{rules}
 use borrow.Author.Tests.{not-true}
+use Rattle.std.specs.List.{list_all, range_with_len}
 use Rattle.numbers.proofs.Choices.{and_left, and_right}
 use Rattle.rules.specs.Codes.{stops, steps_of, code_at, none_stopped, codes_from}
 
 module _ (steps count : ℕ) where
   -- ---- none is 00
 
-  pub none_stopped_next : (i : ℕ) → none_stopped steps count i ≡ true → stops (code_at steps count i) ≡ false → none_stopped steps count (suc i) ≡ true
+  -- the first i and the k after them
+  pub all_going : (i k : ℕ)
+      → (none_stopped steps count i && list_all (λ j. not (stops (code_at steps count j))) (range_with_len i k)) ≡ none_stopped steps count (i + k)
   unfolding none_stopped
-  none_stopped_next i h going = rw (h, going)
+  all_going i zero = search rules
+  all_going i (suc k) = grind (arith, all_going (suc i) k)
 
   pub none_stopped_before : (i : ℕ) → none_stopped steps count (suc i) ≡ true → none_stopped steps count i ≡ true
   unfolding none_stopped
@@ -24,13 +28,6 @@ module _ (steps count : ℕ) where
   pub code_going : (i : ℕ) → none_stopped steps count (suc i) ≡ true → stops (code_at steps count i) ≡ false
   unfolding none_stopped
   code_going i h = not-true _ (search and_right)
-
-  pub code_stopping : (i n : ℕ) → i < n → stops (code_at steps count i) ≡ true → none_stopped steps count n ≡ false
-  unfolding none_stopped
-  code_stopping i zero h e = absurd (omega arith)
-  code_stopping i (suc n) h e =
-      ⊎_elim (λ last. rw (← last, e, and-false)) (λ earlier. rw (code_stopping i n earlier e))
-      (eq-or-lt_of_le (le_of_suc-le-suc h))
 
   -- ---- their positions
 

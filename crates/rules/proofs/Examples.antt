@@ -1,4 +1,5 @@
 -- Worked examples of starts, each shown by computing it.
+use Rattle.std.proofs.Common.{Result, Ok, Err}
 use mathlib.Core.Path.{◌≡◌, refl}
 use mathlib.Core.Bool.{true}
 use mathlib.Core.List.{[], ◌∷◌}
@@ -10,7 +11,7 @@ use Rattle.parts.specs.declared.shapes.Figure.{Figure}
 use Rattle.parts.specs.declared.shapes.Registers.{Registers}
 use Rattle.parts.specs.Fresh.{no_ink, no_point, fresh_registers}
 use Rattle.parts.specs.declared.refusals.Refusal.{Refusal}
-use Rattle.parts.specs.declared.refusals.Refusal.TheVariants.{Accepted, Fields, Mixes, Ends}
+use Rattle.parts.specs.declared.refusals.Refusal.TheVariants.{Fields, Mixes, Ends}
 use Rattle.parts.specs.declared.drawing.Drawing.TheVariants.{Nothing, Codes}
 use Rattle.rules.specs.Operations.{is_map, is_line, is_fill, is_block, source_is_colour, uses_source, uses_pattern, uses_mask}
 use Rattle.rules.specs.Maps.{is_one_bit, fresh_map, map_at, format_holds, end_holds}
@@ -44,37 +45,37 @@ registers operations mix =
     }
 
 -- a start of these operations with this foreground mix, where map A has 8 by 8 bytes from this base on in a memory of 64
-abbrev answer : (operations mix base : ℕ) → Refusal
+abbrev answer : (operations mix base : ℕ) → Result Unit Refusal
 answer operations mix base =
     start_refusal 64 (fresh_map ∷ record { base = base; width = 7; height = 7; format = 3 } ∷ fresh_map ∷ fresh_map ∷ []) (registers operations mix)
 
 -- 01, Cases, 12: at base 0 accepted, at base 1 refusal 8
-pub case12 : (answer 0x05018000 3 0 ≡ Accepted) × (answer 0x05018000 3 1 ≡ Ends)
+pub case12 : (answer 0x05018000 3 0 ≡ Ok tt) × (answer 0x05018000 3 1 ≡ Err Ends)
 unfolding bits_of needed_of is_map is_fill source_is_colour uses_source uses_pattern uses_mask map_at format_holds end_holds is_source is_pattern fields_hold
     mixes_hold used_maps formats_hold ends_hold start_refusal
 case12 = (refl, refl)
 
 -- destination code 0 is no map; mix 16 hex is none; of both, and an end beyond the memory, the lowest is given
-pub lowest : (answer 0x05008000 3 0 ≡ Fields) × (answer 0x05018000 0x16 0 ≡ Mixes) × (answer 0x05008000 0x16 1 ≡ Fields)
+pub lowest : (answer 0x05008000 3 0 ≡ Err Fields) × (answer 0x05018000 0x16 0 ≡ Err Mixes) × (answer 0x05008000 0x16 1 ≡ Err Fields)
 unfolding is_map is_fill source_is_colour uses_source is_source is_pattern fields_hold mixes_hold start_refusal
 lowest = (refl, refl, refl)
 
 -- 02, 102: drawing mode 11 is taken for a line, and ignored for a block
-pub boundary : (answer 0x05018030 3 0 ≡ Accepted) × (answer 0x08018030 3 0 ≡ Accepted)
+pub boundary : (answer 0x05018030 3 0 ≡ Ok tt) × (answer 0x08018030 3 0 ≡ Ok tt)
 unfolding bits_of needed_of is_map is_fill source_is_colour uses_source uses_pattern uses_mask map_at format_holds end_holds is_source is_pattern fields_hold
     mixes_hold used_maps formats_hold ends_hold start_refusal
 boundary = (refl, refl)
 
 -- 02, 102: a fill to the left, and one whose pattern is no map, are refused; up or down it is taken
-pub fill : (answer 0x0A012004 3 0 ≡ Fields) × (answer 0x0A018000 3 0 ≡ Fields)
-    × (answer 0x0A012000 3 0 ≡ Accepted) × (answer 0x0A012002 3 0 ≡ Accepted)
+pub fill : (answer 0x0A012004 3 0 ≡ Err Fields) × (answer 0x0A018000 3 0 ≡ Err Fields)
+    × (answer 0x0A012000 3 0 ≡ Ok tt) × (answer 0x0A012002 3 0 ≡ Ok tt)
 unfolding bits_of needed_of is_map is_fill source_is_colour uses_source uses_pattern uses_mask map_at format_holds is_one_bit end_holds is_source is_pattern fill_holds
     fields_hold mixes_hold used_maps formats_hold ends_hold start_refusal
 fill = (refl, refl, refl, refl)
 
 -- ---- drawings and pointers
 
-abbrev point : ℕ → Point
+abbrev point : ℕ → Point ℕ
 point x = record { x = x; y = 0 }
 
 -- the positions that a start by codes has, with these steps in a write of this length

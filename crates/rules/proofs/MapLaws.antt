@@ -1,20 +1,15 @@
 -- The map that a field names is one of the four, so no default is ever read; and no map takes more than 65,536 rows of 65,536 bytes.
-use mathlib.Core.Path.{◌≡◌, refl}
-use mathlib.Core.List.{List, [], ◌∷◌}
-use Prim.Native.Nat.{ℕ, zero, suc, ◌+◌, ◌*◌, ◌%◌, ◌≤◌, ◌<◌}
-use native.Mathlib.Nat.{mul-le-mul, le_of_suc-le-suc}
+use mathlib.Core.Path.{◌≡◌}
+use mathlib.Core.List.{List}
+use Prim.Native.Nat.{ℕ, ◌+◌, ◌*◌, ◌%◌, ◌≤◌, ◌<◌}
+use native.Mathlib.Nat.{mul-le-mul}
 use native.Mathlib.Omega.{arith}
 use lib.ListN.{length, get_or}
+use Rattle.std.proofs.lemmas.List.{get_or_default}
 use Rattle.pixels.specs.declared.Map.{Map}
 use Rattle.pixels.specs.Maps.{needed_of}
 use Rattle.pixels.proofs.Maps.{bits_le}
 use Rattle.rules.specs.Maps.{fresh_map, map_at}
-
--- within a list the default is not read
-get_or_default : {A : Type 0} (l : List A) (i : ℕ) (d e : A) → i < length l → get_or l i d ≡ get_or l i e
-get_or_default [] i d e h = absurd (omega arith)
-get_or_default (x ∷ l) zero d e h = refl
-get_or_default (x ∷ l) (suc i) d e h = get_or_default l i d e (le_of_suc-le-suc h)
 
 pub map_at_lem : (maps : List Map) (field : ℕ) (d : Map) → length maps ≡ 4 → map_at maps field ≡ get_or maps (field % 4) d
 unfolding map_at

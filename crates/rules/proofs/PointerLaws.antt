@@ -32,7 +32,7 @@ remainder_lt x last limit = lt_of_le_of_lt (mod-le x (last + 1))
 
 -- ---- one pointer
 
-module _ (map : Map) (p : Point) where
+module _ (map : Map) (p : Point ℕ) where
   pub inside_x : is_inside map p ≡ true → p.x ≤ map.width
   unfolding is_inside
   inside_x h = leb-true p.x map.width (search (h, and_left))
@@ -71,8 +71,8 @@ module _ (operations : ℕ) (maps : List Map) (p : Pointers) where
   pointers_started_reduced =
       both_kept
       (both_kept
-      (λ h. choose_either (λ (q : Point). point_reduced q ≡ true) (uses_source operations) (turned_reduced (map_at maps (source_field operations)) p.source h) h)
-      (λ h. choose_either (λ (q : Point). point_reduced q ≡ true) (uses_pattern operations)
+      (λ h. choose_either (λ (q : Point ℕ). point_reduced q ≡ true) (uses_source operations) (turned_reduced (map_at maps (source_field operations)) p.source h) h)
+      (λ h. choose_either (λ (q : Point ℕ). point_reduced q ≡ true) (uses_pattern operations)
       (turned_reduced (map_at maps (pattern_field operations)) p.pattern h) h))
       (λ h. h)
 

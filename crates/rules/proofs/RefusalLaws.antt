@@ -1,4 +1,5 @@
--- A start is accepted exactly where its four rules hold: a rule that fails answers before Accepted is reached.
+-- A start is accepted exactly where its four rules hold: a rule that fails answers before Ok is reached.
+use Rattle.std.proofs.Common.{Ok}
 use mathlib.Core.Path.{◌≡◌, refl}
 use mathlib.Core.Bool.{true, not}
 use mathlib.Core.List.{List}
@@ -6,7 +7,6 @@ use Prim.Native.Nat.{ℕ}
 use borrow.Author.Tests.{not-false}
 use Rattle.pixels.specs.declared.Map.{Map}
 use Rattle.parts.specs.declared.shapes.Registers.{Registers}
-use Rattle.parts.specs.declared.refusals.Refusal.TheVariants.{Accepted}
 use Rattle.parts.specs.Refusals.{is_accepted}
 use Rattle.parts.proofs.RefusalLaws.{passed}
 use Rattle.rules.specs.Rules.{fields_hold, mixes_hold, formats_hold, ends_hold, start_refusal}
@@ -19,7 +19,7 @@ module _ (size : ℕ) (maps : List Map) (r : Registers) where
     pub formats : formats_hold r.figure.operations maps ≡ true
     pub ends : ends_hold r.figure.operations maps size ≡ true
 
-  pub start_accepted : Holds → start_refusal size maps r ≡ Accepted
+  pub start_accepted : Holds → start_refusal size maps r ≡ Ok tt
   unfolding start_refusal
   start_accepted h = rw (h.fields, h.mixes, h.formats, h.ends)
 

@@ -25,5 +25,5 @@ unfoldable pub end_holds : ℕ → Map → Bool
 end_holds size map = leb (map.base + needed_of map) size
 
 -- 01, State image: the pointer lies in the map
-unfoldable pub is_inside : Map → Point → Bool
+unfoldable pub is_inside : Map → Point ℕ → Bool
 is_inside map p = leb p.x map.width && leb p.y map.height

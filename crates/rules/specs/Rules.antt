@@ -1,12 +1,12 @@
 -- The start rules: refusals 5 to 8, on the registers as they are after the write.
-use Rattle.std.specs.Prelude.{ℕ, ◌/◌, ◌%◌, Bool, not, ◌&&◌, ◌||◌, List, leb, eqb}
+use Rattle.std.specs.Prelude.{ℕ, ◌/◌, ◌%◌, Bool, not, ◌&&◌, ◌||◌, List, leb, eqb, Result, Ok, Err}
 use Rattle.numbers.specs.Choose.{choose}
 use Rattle.pixels.specs.declared.Map.{Map}
 use Rattle.pixels.specs.Maps.{bits_of}
 use Rattle.parts.specs.declared.shapes.Colours.{Colours}
 use Rattle.parts.specs.declared.shapes.Registers.{Registers}
 use Rattle.parts.specs.declared.refusals.Refusal.{Refusal}
-use Rattle.parts.specs.declared.refusals.Refusal.TheVariants.{Accepted, Fields, Mixes, Formats, Ends}
+use Rattle.parts.specs.declared.refusals.Refusal.TheVariants.{Fields, Mixes, Formats, Ends}
 use Rattle.rules.specs.Operations.{background_source, foreground_source, source_field, destination_field, pattern_field, mask_mode, octant_of}
 use Rattle.rules.specs.Operations.{is_map, is_fill, source_is_colour, uses_source, uses_pattern, uses_mask}
 use Rattle.rules.specs.Maps.{map_at, format_holds, is_one_bit, end_holds}
@@ -60,10 +60,10 @@ unfoldable pub ends_hold : ℕ → List Map → ℕ → Bool
 ends_hold operations maps size = used_maps (end_holds size) operations maps
 
 -- 01, refusals 5 to 8, the lowest first
-unfoldable pub start_refusal : ℕ → List Map → Registers → Refusal
+unfoldable pub start_refusal : ℕ → List Map → Registers → Result Unit Refusal
 start_refusal size maps r =
-    choose (not (fields_hold r.figure.operations)) Fields
-    (choose (not (mixes_hold r.colours)) Mixes
-    (choose (not (formats_hold r.figure.operations maps)) Formats
-    (choose (not (ends_hold r.figure.operations maps size)) Ends
-    Accepted)))
+    choose (not (fields_hold r.figure.operations)) (Err Fields)
+    (choose (not (mixes_hold r.colours)) (Err Mixes)
+    (choose (not (formats_hold r.figure.operations maps)) (Err Formats)
+    (choose (not (ends_hold r.figure.operations maps size)) (Err Ends)
+    (Ok tt))))

@@ -12,7 +12,7 @@ use Rattle.rules.specs.Maps.{map_at}
 use Rattle.rules.specs.Codes.{stops, code_at}
 
 -- 01, Maps and pointers: a pointer becomes the remainder by its map's size
-unfoldable pub turned : Map → Point → Point
+unfoldable pub turned : Map → Point ℕ → Point ℕ
 turned map p = record { x = p.x % (map.width + 1); y = p.y % (map.height + 1) }
 
 -- 01, Maps and pointers: at a start used source and pattern pointers are turned; unused ones stay

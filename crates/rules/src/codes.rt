@@ -37,17 +37,18 @@ pub fn stops(code: u8) -> bool
 pub(crate) fn is_count(count: u8) -> bool
     ensures { result ≡ defined.is_count count }
 {
-    (count == 1) | (count == 2) | (count == 4)
+    matches!(count, 1 | 2 | 4)
 }
 
 // How many of the register's four bytes a write of `count` codes leaves out.
 fn left_out(count: u8) -> u32
     ensures { result ≡ 4 - count }
 {
-    if count < 4 { 4 - count as u32 } else { 0 }
+    4u32.saturating_sub(count as u32)
 }
 
 // Code `i` of the `count` codes that started the drawing, 0 past the register's end.
+#[tactic(auto, unfolding(crate::specs::Codes::code_at))]
 pub fn code_at(steps: u32, count: u8, i: u16) -> u8
     ensures { result ≡ defined.code_at steps count i }
 {
@@ -58,12 +59,5 @@ pub fn code_at(steps: u32, count: u8, i: u16) -> u8
 pub(crate) fn none_stopped(steps: u32, count: u8, n: u16) -> bool
     ensures { result ≡ defined.none_stopped steps count n }
 {
-    let mut i: u16 = 0;
-    while i < n {
-        if stops(code_at(steps, count, i)) {
-            return false;
-        }
-        i += 1;
-    }
-    true
+    (0..n).all(|i| !stops(code_at(steps, count, i)))
 }

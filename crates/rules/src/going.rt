@@ -13,6 +13,7 @@ use parts::shapes::{Figure, Pointers};
 use pixels::Map;
 
 // Whether the codes can go on at this code and position.
+#[tactic(auto, unfolding(crate::specs::Going::counters_hold, crate::specs::Codes::none_stopped))]
 fn codes_hold(figure: Figure, count: u8, code: u16, done: u16) -> bool
     ensures { result ≡ counters_hold figure (Codes count code done) }
 {
@@ -25,11 +26,12 @@ fn codes_hold(figure: Figure, count: u8, code: u16, done: u16) -> bool
 }
 
 // Whether a drawing in hand can go on from its counters.
+#[tactic(auto, unfolding(crate::specs::Going::counters_hold))]
 pub fn counters_hold(figure: Figure, drawing: Drawing) -> bool
     ensures { result ≡ counters_hold figure drawing }
 {
     match drawing {
-        Drawing::Nothing { stopped: _ } => true,
+        Drawing::Nothing { .. } => true,
         Drawing::Line { done, rose } => {
             is_line(figure.operations)
                 & (done <= figure.dimensions.x)
@@ -50,11 +52,11 @@ pub fn counters_hold(figure: Figure, drawing: Drawing) -> bool
 }
 
 // Whether the used source and pattern pointers lie in their maps.
+#[tactic(auto, unfolding(crate::specs::Going::pointers_hold))]
 pub fn pointers_hold(operations: u32, maps: [Map; 4], pointers: Pointers) -> bool
     ensures { result ≡ pointers_hold operations maps pointers }
 {
-    let source = pointers.source;
-    let pattern = pointers.pattern;
-    (!uses_source(operations) | is_inside(map_at(maps, source_field(operations)), source))
-        & (!uses_pattern(operations) | is_inside(map_at(maps, pattern_field(operations)), pattern))
+    (!uses_source(operations) | is_inside(map_at(maps, source_field(operations)), pointers.source))
+        & (!uses_pattern(operations)
+            | is_inside(map_at(maps, pattern_field(operations)), pointers.pattern))
 }

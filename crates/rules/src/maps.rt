@@ -5,14 +5,15 @@ use parts::shapes::Point;
 use pixels::Map;
 
 // The map that a field of the pixel operations names: 0 for M, 1 for A, 2 for B, 3 for C.
+#[tactic(auto, unfolding(crate::specs::Maps::map_at))]
 pub fn map_at(maps: [Map; 4], field: u32) -> Map
     ensures { result ≡ map_at maps field }
 {
-    let i = (field % 4) as usize;
-    maps[i]
+    maps[(field % 4) as usize]
 }
 
 // Whether the format is one of the four pixel sizes.
+#[tactic(auto, unfolding(crate::specs::Maps::format_holds))]
 pub(crate) fn format_holds(map: Map) -> bool
     ensures { result ≡ format_holds map }
 {
@@ -20,6 +21,7 @@ pub(crate) fn format_holds(map: Map) -> bool
 }
 
 // Whether the map's pixels have one bit.
+#[tactic(auto, unfolding(crate::specs::Maps::is_one_bit))]
 pub(crate) fn is_one_bit(map: Map) -> bool
     ensures { result ≡ is_one_bit map }
 {
@@ -27,6 +29,7 @@ pub(crate) fn is_one_bit(map: Map) -> bool
 }
 
 // Whether the map ends within a memory of `size` bytes.
+#[tactic(auto, using(crate::proofs::MapLaws::needed_le), unfolding(crate::specs::Maps::end_holds))]
 pub(crate) fn end_holds(size: u32, map: Map) -> bool
     ensures { result ≡ end_holds size map }
 {
@@ -34,7 +37,8 @@ pub(crate) fn end_holds(size: u32, map: Map) -> bool
 }
 
 // Whether the pointer lies in the map.
-pub fn is_inside(map: Map, p: Point) -> bool
+#[tactic(auto, unfolding(crate::specs::Maps::is_inside))]
+pub fn is_inside(map: Map, p: Point<u16>) -> bool
     ensures { result ≡ is_inside map p }
 {
     (p.x <= map.width) & (p.y <= map.height)

@@ -18,6 +18,7 @@ pub fn foreground_source(operations: u32) -> u32
 }
 
 // Bits 27-24: the function.
+// It stays the field's own number, which 01 names the functions by: an enum would be decoded by the very tests that ask it below.
 pub fn function_of(operations: u32) -> u32
     ensures { result ≡ defined.function_of operations }
 {
@@ -69,29 +70,31 @@ pub fn octant_of(operations: u32) -> u32
 // What the fields say.
 
 // Whether a map's field names map A, B or C.
+#[tactic(auto, unfolding(crate::specs::Operations::is_map))]
 pub(crate) fn is_map(field: u32) -> bool
     ensures { result ≡ defined.is_map field }
 {
-    (1 <= field) & (field <= 3)
+    matches!(field, 1..=3)
 }
 
 // Whether the function draws a line.
+#[tactic(auto, unfolding(crate::specs::Operations::is_line))]
 pub fn is_line(operations: u32) -> bool
     ensures { result ≡ defined.is_line operations }
 {
-    let function = function_of(operations);
-    (function == 3) | (function == 5)
+    matches!(function_of(operations), 3 | 5)
 }
 
 // Whether the function draws by step codes.
+#[tactic(auto, unfolding(crate::specs::Operations::is_codes))]
 pub fn is_codes(operations: u32) -> bool
     ensures { result ≡ defined.is_codes operations }
 {
-    let function = function_of(operations);
-    (function == 2) | (function == 4)
+    matches!(function_of(operations), 2 | 4)
 }
 
 // Whether the function fills an area.
+#[tactic(auto, unfolding(crate::specs::Operations::is_fill))]
 pub fn is_fill(operations: u32) -> bool
     ensures { result ≡ defined.is_fill operations }
 {
@@ -99,14 +102,15 @@ pub fn is_fill(operations: u32) -> bool
 }
 
 // Whether the function draws a block; an area fill has a block's positions.
+#[tactic(auto, unfolding(crate::specs::Operations::is_fill, crate::specs::Operations::is_block))]
 pub fn is_block(operations: u32) -> bool
     ensures { result ≡ defined.is_block operations }
 {
-    let function = function_of(operations);
-    (function == 8) | (function == 9) | (function == 10)
+    matches!(function_of(operations), 8..=10)
 }
 
 // The drawing mode, which a block ignores.
+#[tactic(auto, unfolding(crate::specs::Operations::mode_of))]
 pub fn mode_of(operations: u32) -> u32
     ensures { result ≡ defined.mode_of operations }
 {
@@ -118,6 +122,7 @@ pub fn mode_of(operations: u32) -> u32
 }
 
 // Whether the function draws at all.
+#[tactic(auto, unfolding(crate::specs::Operations::draws))]
 pub fn draws(operations: u32) -> bool
     ensures { result ≡ defined.draws operations }
 {
@@ -125,6 +130,7 @@ pub fn draws(operations: u32) -> bool
 }
 
 // Whether a colour comes from the source map.
+#[tactic(auto, unfolding(crate::specs::Operations::source_is_colour))]
 pub(crate) fn source_is_colour(operations: u32) -> bool
     ensures { result ≡ defined.source_is_colour operations }
 {
@@ -132,6 +138,7 @@ pub(crate) fn source_is_colour(operations: u32) -> bool
 }
 
 // Whether the source map is used, for a colour or for the pattern.
+#[tactic(auto, unfolding(crate::specs::Operations::uses_source))]
 pub fn uses_source(operations: u32) -> bool
     ensures { result ≡ defined.uses_source operations }
 {
@@ -139,6 +146,7 @@ pub fn uses_source(operations: u32) -> bool
 }
 
 // Whether the pattern map is used.
+#[tactic(auto, unfolding(crate::specs::Operations::uses_pattern))]
 pub fn uses_pattern(operations: u32) -> bool
     ensures { result ≡ defined.uses_pattern operations }
 {
@@ -146,6 +154,7 @@ pub fn uses_pattern(operations: u32) -> bool
 }
 
 // Whether the mask map is used; its boundary alone uses no pixel of it.
+#[tactic(auto, unfolding(crate::specs::Operations::uses_mask))]
 pub(crate) fn uses_mask(operations: u32) -> bool
     ensures { result ≡ defined.uses_mask operations }
 {

@@ -1,4 +1,5 @@
-ghost use Rattle.std.specs.Prelude.{◌≡◌, not, ◌||◌, eqb};
+ghost use Rattle.std.specs.Prelude.{◌≡◌, Bool, not, ◌||◌, eqb};
+ghost use Rattle.pixels.specs.declared.Map.{Map};
 ghost use Rattle.pixels.specs.Maps.{bits_of};
 ghost use Rattle.rules.specs.Operations.{source_field, destination_field, source_is_colour};
 ghost use Rattle.rules.specs.Maps.{map_at, format_holds};
@@ -14,20 +15,23 @@ use parts::shapes::{Colours, Registers};
 use pixels::Map;
 
 // Whether a source field is 00 or 10.
+#[tactic(auto, unfolding(crate::specs::Rules::is_source))]
 fn is_source(field: u32) -> bool
     ensures { result ≡ is_source field }
 {
-    (field == 0) | (field == 2)
+    matches!(field, 0 | 2)
 }
 
 // Whether the pattern's field is one that has a meaning.
+#[tactic(auto, unfolding(crate::specs::Rules::is_pattern))]
 fn is_pattern(field: u32) -> bool
     ensures { result ≡ is_pattern field }
 {
-    is_map(field) | (field == 8) | (field == 9)
+    is_map(field) | matches!(field, 8 | 9)
 }
 
 // Whether an area fill has a pattern map, and does not go to the left.
+#[tactic(auto, unfolding(crate::specs::Rules::fill_holds))]
 fn fill_holds(operations: u32) -> bool
     ensures { result ≡ fill_holds operations }
 {
@@ -35,6 +39,7 @@ fn fill_holds(operations: u32) -> bool
 }
 
 // Whether refusal 5 does not apply.
+#[tactic(auto, unfolding(crate::specs::Rules::fields_hold))]
 fn fields_hold(operations: u32) -> bool
     ensures { result ≡ fields_hold operations }
 {
@@ -48,20 +53,23 @@ fn fields_hold(operations: u32) -> bool
 }
 
 // Whether refusal 6 does not apply.
+#[tactic(auto, unfolding(crate::specs::Rules::mixes_hold))]
 fn mixes_hold(colours: Colours) -> bool
     ensures { result ≡ mixes_hold colours }
 {
     (colours.foreground.mix <= 0x15) & (colours.background.mix <= 0x15)
 }
 
-// Whether every used map has one of the four pixel sizes.
-fn used_formats_hold(operations: u32, maps: [Map; 4]) -> bool
-    ensures { result ≡ used_maps format_holds operations maps }
+// Whether every used map passes a test.
+#[tactic(auto, unfolding(crate::specs::Rules::used_maps))]
+fn used_maps_hold<F: Fn(Map) -> bool>(operations: u32, maps: [Map; 4], holds: F) -> bool
+    requires { F.IsAlwaysCallable holds }
+    ensures { (test : Map → Bool) → ((m : Map) (r : Bool) → F.post holds m r → r ≡ test m) → result ≡ used_maps test operations maps }
 {
-    format_holds(map_at(maps, destination_field(operations)))
-        & (!uses_source(operations) | format_holds(map_at(maps, source_field(operations))))
-        & (!uses_pattern(operations) | format_holds(map_at(maps, pattern_field(operations))))
-        & (!uses_mask(operations) | format_holds(map_at(maps, 0)))
+    holds(map_at(maps, destination_field(operations)))
+        & (!uses_source(operations) | holds(map_at(maps, source_field(operations))))
+        & (!uses_pattern(operations) | holds(map_at(maps, pattern_field(operations))))
+        & (!uses_mask(operations) | holds(map_at(maps, 0)))
 }
 
 // Whether a source used for a colour has the destination's pixel size.
@@ -76,42 +84,41 @@ fn sizes_agree(operations: u32, maps: [Map; 4]) -> bool
 }
 
 // Whether refusal 7 does not apply.
+#[tactic(auto, unfolding(crate::specs::Rules::formats_hold))]
 fn formats_hold(operations: u32, maps: [Map; 4]) -> bool
     ensures { result ≡ formats_hold operations maps }
 {
-    used_formats_hold(operations, maps)
+    used_maps_hold(operations, maps, format_holds)
         & sizes_agree(operations, maps)
         & (!uses_pattern(operations) | is_one_bit(map_at(maps, pattern_field(operations))))
         & (!uses_mask(operations) | is_one_bit(map_at(maps, 0)))
 }
 
 // Whether refusal 8 does not apply.
+#[tactic(auto, unfolding(crate::specs::Rules::ends_hold))]
 fn ends_hold(operations: u32, maps: [Map; 4], size: u32) -> bool
     ensures { result ≡ ends_hold operations maps size }
 {
-    end_holds(size, map_at(maps, destination_field(operations)))
-        & (!uses_source(operations) | end_holds(size, map_at(maps, source_field(operations))))
-        & (!uses_pattern(operations) | end_holds(size, map_at(maps, pattern_field(operations))))
-        & (!uses_mask(operations) | end_holds(size, map_at(maps, 0)))
+    used_maps_hold(operations, maps, |map| end_holds(size, map))
 }
 
 // The lowest of refusals 5 to 8 that applies to a start on these registers.
-pub fn start_refusal(size: u32, maps: [Map; 4], registers: Registers) -> Refusal
+#[tactic(auto, unfolding(crate::specs::Rules::start_refusal))]
+pub fn start_refusal(size: u32, maps: [Map; 4], registers: Registers) -> Result<(), Refusal>
     ensures { result ≡ start_refusal size maps registers }
 {
     let operations = registers.figure.operations;
-    let colours = registers.colours;
     if !fields_hold(operations) {
-        return Refusal::Fields;
+        return Err(Refusal::Fields);
     }
-    if !mixes_hold(colours) {
-        return Refusal::Mixes;
+    if !mixes_hold(registers.colours) {
+        return Err(Refusal::Mixes);
     }
     if !formats_hold(operations, maps) {
-        return Refusal::Formats;
+        return Err(Refusal::Formats);
     }
     if !ends_hold(operations, maps, size) {
-        return Refusal::Ends;
+        return Err(Refusal::Ends);
     }
-    Refusal::Accepted
+    Ok(())
 }

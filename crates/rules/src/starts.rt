@@ -13,7 +13,8 @@ use parts::shapes::{Figure, Point, Pointers};
 use pixels::Map;
 
 // A used pointer's remainder by its map's size; an unused one stays.
-fn turned(used: bool, map: Map, p: Point) -> Point
+#[tactic(auto, unfolding(crate::specs::Starts::turned))]
+fn turned(used: bool, map: Map, p: Point<u16>) -> Point<u16>
     ensures { result ≡ choose used (defined.turned map p) p }
 {
     if used {
@@ -27,22 +28,21 @@ fn turned(used: bool, map: Map, p: Point) -> Point
 }
 
 // The pointers after a start.
+#[tactic(auto, unfolding(crate::specs::Starts::pointers_started))]
 pub fn start_pointers(operations: u32, maps: [Map; 4], pointers: Pointers) -> Pointers
     ensures { result ≡ defined.pointers_started operations maps pointers }
 {
     let source_map = map_at(maps, source_field(operations));
     let pattern_map = map_at(maps, pattern_field(operations));
-    let source = pointers.source;
-    let pattern = pointers.pattern;
-    let destination = pointers.destination;
     Pointers {
-        source: turned(uses_source(operations), source_map, source),
-        pattern: turned(uses_pattern(operations), pattern_map, pattern),
-        destination,
+        source: turned(uses_source(operations), source_map, pointers.source),
+        pattern: turned(uses_pattern(operations), pattern_map, pointers.pattern),
+        ..pointers
     }
 }
 
 // The drawing that a start of `length` written bytes sets.
+#[tactic(auto, unfolding(crate::specs::Starts::drawing_started))]
 pub fn start_drawing(figure: Figure, length: u8) -> Drawing
     ensures { result ≡ defined.drawing_started figure length }
 {

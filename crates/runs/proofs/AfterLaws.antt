@@ -26,14 +26,17 @@ unfolding after
 after_idle s zero t idle = refl
 after_idle s (suc n) t idle = rw (after_idle s n t idle) (stepped_idle s t idle)
 
--- a run that has used up its allowance, or is idle, is the run of all of them
+-- a run that is idle is the run of all of them, and so is one that has used up its allowance
+pub after_rest : (s : Setup) (k n : ℕ) (t u : Run) → after s k t ≡ u → k ≤ n → unfinished u.pen.drawing ≡ false → after s n t ≡ u
+after_rest s k n t u e h idle =
+    let whole : n ≡ k + (n - k) = omega arith in
+    rw (whole, after_add s k (n - k) t, e) (after_idle s (n - k) u idle)
+
 pub after_stop : (s : Setup) (k n : ℕ) (t u : Run) → after s k t ≡ u → k ≤ n → (ltb k n && unfinished u.pen.drawing) ≡ false → after s n t ≡ u
 after_stop s k n t u e h = by (ltb k n) refl
   where
     by : (less : Bool) → ltb k n ≡ less → (less && unfinished u.pen.drawing) ≡ false → after s n t ≡ u
-    by true f idle =
-        let whole : n ≡ k + (n - k) = omega arith in
-        rw (whole, after_add s k (n - k) t, e) (after_idle s (n - k) u idle)
+    by true f idle = after_rest s k n t u e h idle
     by false f idle = let all : n ≡ k = omega (arith, ltb-false k n f) in rw all e
 
 pub after_on : (s : Setup) (k : ℕ) (t u : Run) → after s k t ≡ u → unfinished u.pen.drawing ≡ true → after s (k + 1) t ≡ positioned s u

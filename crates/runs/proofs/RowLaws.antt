@@ -12,7 +12,6 @@ use Rattle.pixels.specs.Pixels.{byte_at, pixel_at}
 use Rattle.pixels.specs.Inner.{place_at}
 use Rattle.mixes.specs.declared.logical.Blend.{Blend}
 use Rattle.mixes.specs.Inner.{blended}
-use Rattle.rows.specs.declared.Whole.{Whole}
 use Rattle.rows.specs.Inner.{wholly, along, Reach, pixel_no, with_pixel_no, swept_from}
 use Rattle.parts.specs.declared.drawing.Drawing.TheVariants.{Block}
 use Rattle.rules.specs.Maps.{end_holds}
@@ -32,12 +31,12 @@ use Rattle.position.specs.Drawn.{source_pixel, drawn}
 use Rattle.position.specs.Inner.{InkBlends, Safe}
 use Rattle.position.proofs.Safety.{held_within, picked_reads}
 use Rattle.position.proofs.Writing.{on_map_lem}
-use Rattle.runs.specs.declared.plans.Plan.{Plan}
+use Rattle.runs.specs.declared.plans.RowPlan.{RowPlan}
 use Rattle.runs.specs.declared.plans.Taken.{Taken}
 use Rattle.runs.specs.declared.plans.Taken.TheVariants.{Own, Source, Pattern}
 use Rattle.runs.specs.Runs.{begun, after}
 use Rattle.runs.specs.Inner.{drawing_on, columns_on, row_drawn, left_edge, right_edge, goes_across, goes_back, is_plain, is_blended, is_inked, is_expanded, has_rows, has_inks}
-use Rattle.runs.specs.Inner.{RowsBy, Planned, BlendOf, Blended, taken_map, taken_x, taken_y, row_op, Makes, Formed, Laid}
+use Rattle.runs.specs.Inner.{RowsBy, RowPlanned, BlendOf, RowBlended, taken_map, taken_x, taken_y, row_op, Makes, Formed, Laid}
 use Rattle.runs.specs.Inner.{Spans, pixel_number, Sized, column_at, row_at, lane_by, lane_at, Stretch}
 use Rattle.runs.proofs.StretchLaws.{stretch_after}
 use Rattle.runs.proofs.PlainLaws.{Plained, plained, Patterned, patterned, drawn_plain, drawn_inked}
@@ -92,7 +91,7 @@ number_place back map x y k low size spans high ends i less =
     (held_within size map (along back x i) y (spans_at back x k low map.width i less spans).1 high ends)
 
 -- a byte is the one pixel in it, where pixels have eight bits
-whole_pixel : (n : ℕ) (w : Whole) (blend : Blend) → n ≡ 8
+whole_pixel : (n : ℕ) (w blend : Blend ℕ) → n ≡ 8
     → ((i s d : ℕ) → i * n < 8 → field (i * n) n (wholly w s d) ≡ blended n blend (field (i * n) n s) (field (i * n) n d) % 2 ^ n)
     → (d : ℕ) → d < 256 → blended n blend 0 d % 256 ≡ wholly w 0 d % 256
 unfolding field
@@ -127,13 +126,13 @@ module _ (s : Setup) (size : ℕ) (pen : Pen) (safe : Safe s size pen) where
 
 -- ---- a position of a stretch
 
-module _ (s : Setup) (p : Plan) (planned : Planned s p) (by_rows : p.rows ≡ true)
+module _ (s : Setup) (p : RowPlan) (planned : RowPlanned s p)
     (pen : Pen) (size k : ℕ) (safe : Safe s size pen) (stretch : Stretch s p pen k) where
   abbrev taken : Taken
   taken = p.takes
 
   abbrev by : RowsBy s p.takes
-  by = planned.rows by_rows
+  by = planned.rows
 
   abbrev row : Rowed s
   row = rowed s p.takes by
@@ -157,21 +156,27 @@ module _ (s : Setup) (p : Plan) (planned : Planned s p) (by_rows : p.rows ≡ tr
 
   -- and those of the pixels that are taken
   spans : Spans back (taken_x s taken pen) k 0 (taken_map s taken).width
-  spans = subst (λ (b : Bool). Spans b (taken_x s taken pen) k 0 (taken_map s taken).width) planned.back stretch.taken
+  spans =
+      subst (λ (b : Bool). Spans b (taken_x s taken pen) k 0 (taken_map s taken).width) planned.back
+      (subst (λ (m : Map). Spans p.back (taken_x s taken pen) k 0 m.width) planned.map stretch.taken)
 
   -- it lies in the memory
-  pub row_laid : 0 < k → Sized map → Sized (taken_map s taken) → Laid taken (taken_map s taken).format (lane_at s p pen) k size
+  pub row_laid : 0 < k → Sized map → Sized p.map → Laid taken p.map.format (lane_at s p pen) k size
   row_laid some sized sized' =
-      subst (λ (b : Bool). Laid taken (taken_map s taken).format (lane_by s taken b pen) k size) (sym planned.back)
+      subst (λ (m : Map). Laid taken m.format (lane_by s taken m p.back pen) k size) (sym planned.map)
+      (subst (λ (b : Bool). Laid taken (taken_map s taken).format (lane_by s taken (taken_map s taken) b pen) k size) (sym planned.back)
       (record {
         some = some;
         formed = taken_formed s size pen safe taken by;
-        from = number_reach back (taken_map s taken) (taken_x s taken pen) (taken_y s taken pen) k 0 sized'.0 (lt_of_le_of_lt low' sized'.1) spans some;
+        from = number_reach back (taken_map s taken) (taken_x s taken pen) (taken_y s taken pen) k 0 sized''.0 (lt_of_le_of_lt low' sized''.1) spans some;
         to = number_reach back map (column_at s pen) (row_at pen) k (left_edge s.brush) sized.0 (lt_of_le_of_lt low sized.1) wide some;
         source = number_place back (taken_map s taken) (taken_x s taken pen) (taken_y s taken pen) k 0 size spans low' (taken_ends s size pen safe taken by);
         destination = number_place back map (column_at s pen) (row_at pen) k (left_edge s.brush) size wide low safe.destination;
-      })
+      }))
     where
+      sized'' : Sized (taken_map s taken)
+      sized'' = subst Sized planned.map sized'
+
       wide : Spans back (column_at s pen) k (left_edge s.brush) map.width
       wide = spans_wider back (column_at s pen) k (left_edge s.brush) (right_edge s.brush) map.width (right_in s.brush) columns
 
@@ -253,7 +258,7 @@ module _ (s : Setup) (p : Plan) (planned : Planned s p) (by_rows : p.rows ≡ tr
           draws = ap (is_move s.travel) d
 
           shown : nulled_by s pen.e (drawing_on i pen.drawing) ≡ false
-          shown = let mode = s.brush.flow.mode in ap (nulled_by s pen.e) d ∙ none_left (eqb mode 1) (eqb mode 2) (eqb mode 3)
+          shown = ap (nulled_by s pen.e) d ∙ none_left s.brush.flow.mode
 
           on : on_map s.brush (at i) ≡ true
           on = on_at s pen k row.edge row.across stretch.on stretch.inside columns i less
@@ -277,7 +282,7 @@ module _ (s : Setup) (p : Plan) (planned : Planned s p) (by_rows : p.rows ≡ tr
       pub position_swept : let l = lane_at s p pen in
           drawn s memory (at i)
           ≡ with_pixel_no l.format l.destination (along l.back l.to i)
-          (row_op s blends taken (pixel_no (taken_map s taken).format l.source (along l.back l.from i) memory)
+          (row_op s blends taken (pixel_no p.map.format l.source (along l.back l.from i) memory)
           (pixel_no l.format l.destination (along l.back l.to i) memory)) memory
       position_swept =
           made taken by spans
@@ -285,26 +290,26 @@ module _ (s : Setup) (p : Plan) (planned : Planned s p) (by_rows : p.rows ≡ tr
           ∙ (λ j.
           with_pixel_no map.format map.base (along (sym planned.back j) (pixel_number map (column_at s pen) (row_at pen)) i)
           (row_op s blends taken
-          (pixel_no (taken_map s taken).format (taken_map s taken).base (along (sym planned.back j) (pixel_number (taken_map s taken) (taken_x s taken pen) (taken_y s taken pen)) i) memory)
+          (pixel_no (sym planned.map j).format (sym planned.map j).base (along (sym planned.back j) (pixel_number (sym planned.map j) (taken_x s taken pen) (taken_y s taken pen)) i) memory)
           (pixel_no map.format map.base (along (sym planned.back j) (pixel_number map (column_at s pen) (row_at pen)) i) memory)) memory)
 
   -- ---- the stretch
 
   module _ (blends : Blends) (inks : InkBlends s.brush blends) where
     pub row_swept : (n : ℕ) → n ≤ k → (memory : List ℕ)
-        → row_drawn s n memory pen ≡ swept_from (taken_map s taken).format (row_op s blends taken) (lane_at s p pen) n memory
+        → row_drawn s n memory pen ≡ swept_from p.map.format (row_op s blends taken) (lane_at s p pen) n memory
     unfolding row_drawn swept_from
     row_swept zero few memory = refl
     row_swept (suc n) few memory =
         let before = row_swept n (omega arith) memory in
         ap (λ (m : List ℕ). drawn s m (at n)) before
-        ∙ position_swept n (omega arith) blends inks (swept_from (taken_map s taken).format (row_op s blends taken) (lane_at s p pen) n memory)
+        ∙ position_swept n (omega arith) blends inks (swept_from p.map.format (row_op s blends taken) (lane_at s p pen) n memory)
 
     -- by the plan's blends of bytes
-    pub row_makes : Blended s blends p → Makes taken map.format (row_op s blends taken) p.front p.rear
+    pub row_makes : RowBlended s blends p → Makes taken map.format (row_op s blends taken) p.front p.rear
     row_makes alike = makes taken by
       where
-        byte : (w : Whole) (blend : Blend) → BlendOf s blend w → bits_of map.format ≡ 8 → (d : ℕ) → d < 256
+        byte : (w blend : Blend ℕ) → BlendOf s blend w → bits_of map.format ≡ 8 → (d : ℕ) → d < 256
             → blended (bits_of map.format) blend 0 d % 256 ≡ wholly w 0 d % 256
         byte w blend h eight = whole_pixel (bits_of map.format) w blend eight h
 
@@ -318,7 +323,7 @@ module _ (s : Setup) (p : Plan) (planned : Planned s p) (by_rows : p.rows ≡ tr
         → after s k (begun pen memory)
         ≡ record {
           pen = moved s.travel (columns_passed s.travel n (Block false (stretch.column + n) stretch.row) pen);
-          memory = swept_from (taken_map s taken).format (row_op s blends taken) (lane_at s p pen) k memory;
+          memory = swept_from p.map.format (row_op s blends taken) (lane_at s p pen) k memory;
           done = k;
         }
     stretch_run n all memory =

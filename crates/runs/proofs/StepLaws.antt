@@ -12,7 +12,7 @@ use Rattle.parts.specs.Reduced.{term_reduced}
 use Rattle.rows.specs.Inner.{along}
 use Rattle.moves.specs.declared.Turn.{Turn}
 use Rattle.moves.specs.declared.Turn.TheVariants.{Stay, Forth, Back}
-use Rattle.moves.specs.declared.Step.{Step}
+use Rattle.parts.specs.declared.shapes.Point.{Point}
 use Rattle.moves.specs.Turns.{circled_by}
 use Rattle.moves.proofs.ColumnLaws.{circled_forth, circled_back}
 use Rattle.runs.specs.Inner.{goes_across, goes_back, agrees, Spans, pixel_number, stride_by, stride_of, raised, error_in}
@@ -86,7 +86,7 @@ stride_on Stay y y' w e small = rw e (omega arith)
 stride_on Forth y y' w e small = let more : (y + 1) * (w + 1) ≡ y * (w + 1) + (w + 1) = omega (arith, suc-mul y (w + 1)) in rw e (omega (arith, more))
 stride_on Back y y' w e small = let more : (y' + 1) * (w + 1) ≡ y' * (w + 1) + (w + 1) = omega (arith, suc-mul y' (w + 1)) in rw e (omega (arith, more))
 
-pub number_step : (map : Map) (step : Step) (x y x' y' : ℕ) → Stepped step.x x x' → Stepped step.y y y' → map.width < 2 ^ 16
+pub number_step : (map : Map) (step : Point Turn) (x y x' y' : ℕ) → Stepped step.x x x' → Stepped step.y y y' → map.width < 2 ^ 16
     → pixel_number map x' y' < 2 ^ 32 → (pixel_number map x y + stride_of map.width step) % 2 ^ 32 ≡ pixel_number map x' y'
 number_step map step x y x' y' across down small fits =
     by (y * (map.width + 1)) (y' * (map.width + 1)) (stride_by step.x 0) (stride_by step.y map.width) (round step.x) (round step.y)

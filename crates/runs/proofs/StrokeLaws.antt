@@ -1,8 +1,7 @@
 -- A stroke that is inside: each position of it is painted, and its pixels are those of a trail, by induction on the steps.
-use Rattle.std.proofs.Common.{◌≡◌, ℕ, zero, suc, ◌+◌, ◌/◌, ◌%◌, ◌^◌, ◌<◌, ◌≤◌, Bool, true, false, ◌&&◌, eqb, ltb, List, ℤ, pos, ◌+ℤ◌, sym, refl, ap, ◌∙◌, subst, le_trans, lt_of_le_of_lt, add-zero, add-one, arith, le-ltb, lt-ltb, ne_eqb}
+use Rattle.std.proofs.Common.{◌≡◌, ℕ, zero, suc, ◌+◌, ◌/◌, ◌%◌, ◌^◌, ◌<◌, ◌≤◌, Bool, true, false, ◌&&◌, eqb, ltb, List, ℤ, pos, ◌+ℤ◌, sym, refl, ap, ◌∙◌, subst, le_trans, lt_of_le_of_lt, add-zero, add-one, arith, le-ltb, lt-ltb, ne_eqb, Some}
 use mathlib.Core.Bool.{false≢true}
 use native.Mathlib.Nat.{min-le_left, min-le_right}
-use borrow.Author.Tests.{not-true}
 use Rattle.numbers.specs.Choose.{choose}
 use Rattle.numbers.specs.Circles.{circle}
 use Rattle.numbers.proofs.Choices.{choose_true, choose_false, choose_part}
@@ -15,9 +14,10 @@ use Rattle.rows.specs.Inner.{along, pixel_no, with_pixel_no, error_at, number_at
 use Rattle.parts.specs.declared.drawing.Drawing.{Drawing}
 use Rattle.parts.specs.declared.drawing.Drawing.TheVariants.{Nothing, Line, Codes, Block}
 use Rattle.parts.specs.Drawings.{unfinished, with_inside}
-use Rattle.rules.specs.Codes.{steps_of, code_at}
+use Rattle.parts.specs.Reduced.{term_reduced}
+use Rattle.rules.specs.Codes.{only_moves, steps_of, code_at}
 use Rattle.moves.specs.declared.Turn.{Turn}
-use Rattle.moves.specs.declared.Step.{Step}
+use Rattle.parts.specs.declared.shapes.Point.{Point}
 use Rattle.moves.specs.declared.Pen.{Pen}
 use Rattle.moves.proofs.ColumnLaws.{pos_on}
 use Rattle.moves.specs.Turns.{circled_by, point_stepped, spot_stepped}
@@ -32,7 +32,7 @@ use Rattle.position.proofs.Safety.{held_within}
 use Rattle.runs.specs.declared.strokes.Stroke.{Stroke}
 use Rattle.runs.specs.Runs.{Run, begun, positioned, stepped, after}
 use Rattle.runs.specs.Inner.{left_edge, right_edge, top_edge, bottom_edge, goes_across, goes_back, agrees, is_stroke}
-use Rattle.runs.specs.Inner.{remainder, pixel_number, Sized, column_at, row_at, stroke_of, stride_of, trail_from, error_in, drawing_at, drawing_ended, error_of, pen_at, Inside}
+use Rattle.runs.specs.Inner.{remainder, pixel_number, Sized, column_at, row_at, line_drawn, code_drawn, stroke_of, stride_of, trail_from, error_in, drawing_at, drawing_ended, error_of, pen_at, Inside}
 use Rattle.runs.proofs.AfterLaws.{stepped_on}
 use Rattle.runs.proofs.StretchLaws.{and_no}
 use Rattle.runs.proofs.PlaceLaws.{spans_at, on_column, on_row}
@@ -40,7 +40,7 @@ use Rattle.runs.proofs.EdgeLaws.{column_in_lem, row_in_lem, width_in, height_in,
 use Rattle.runs.proofs.PlainLaws.{drawn_plain}
 use Rattle.rows.proofs.LaneLaws.{along_none}
 use Rattle.runs.proofs.RowLaws.{number_lt}
-use Rattle.runs.proofs.StrokedLaws.{Stroked, stroked, same_choice, stroke_agrees}
+use Rattle.runs.proofs.StrokedLaws.{Stroked, stroked, same_choice, of_line, of_code, stroke_agrees}
 use Rattle.runs.proofs.StepLaws.{Stepped, moves, moves_lt, moves_none, axis_step, circled_step, number_step, number_column, number_row, below_nought, error_step, raised_back}
 
 -- ---- a stroke
@@ -74,7 +74,7 @@ module _ (s : Setup) (pen : Pen) (k : Stroke) (x y across down : ℕ) (h : Insid
   abbrev below : ℕ → Bool
   below i = ltb (error_at t i) 8192
 
-  abbrev step : ℕ → Step
+  abbrev step : ℕ → Point Turn
   step i = choose (below i) k.straight k.turned
 
   -- the pen after i steps of a drawing
@@ -83,7 +83,7 @@ module _ (s : Setup) (pen : Pen) (k : Stroke) (x y across down : ℕ) (h : Insid
 
   -- each step is a part of the turned one
   both_agree : (agrees k.straight.x k.turned.x ≡ true) × (agrees k.straight.y k.turned.y ≡ true)
-  both_agree = rw h.stroke (stroke_agrees s has pen.e pen.drawing)
+  both_agree = stroke_agrees s has pen.e pen.drawing k h.stroke
 
   module _ (i : ℕ) (less : i ≤ count) (turn : turns_at t i ≤ turns) where
     over_lt : over i < across
@@ -127,14 +127,14 @@ module _ (s : Setup) (pen : Pen) (k : Stroke) (x y across down : ℕ) (h : Insid
     stepped_x : Stepped (step i).x (col i) (col (suc i))
     unfolding turns_at
     stepped_x =
-        subst (λ (w : Turn). Stepped w (col i) (col (suc i))) (choose_part (λ (g : Step). g.x) (below i) k.straight k.turned)
+        subst (λ (w : Turn). Stepped w (col i) (col (suc i))) (choose_part (λ (g : Point Turn). g.x) (below i) k.straight k.turned)
         (axis_step k.straight.x k.turned.x (below i) x i (turns_at t i) across (left_edge s.brush) (right_edge s.brush)
         both_agree.0 h.columns (over_lt (suc i) less turn))
 
     stepped_y : Stepped (step i).y (row i) (row (suc i))
     unfolding turns_at
     stepped_y =
-        subst (λ (w : Turn). Stepped w (row i) (row (suc i))) (choose_part (λ (g : Step). g.y) (below i) k.straight k.turned)
+        subst (λ (w : Turn). Stepped w (row i) (row (suc i))) (choose_part (λ (g : Point Turn). g.y) (below i) k.straight k.turned)
         (axis_step k.straight.y k.turned.y (below i) y i (turns_at t i) down (top_edge s.brush) (bottom_edge s.brush)
         both_agree.1 h.rows (under_lt (suc i) less turn))
 
@@ -152,9 +152,9 @@ module _ (s : Setup) (pen : Pen) (k : Stroke) (x y across down : ℕ) (h : Insid
             source = source j;
             pattern = pattern j;
             destination = record {
-              x = (ap (λ (g : Step). circled_by g.x 1 (pos (col i))) by
+              x = (ap (λ (g : Point Turn). circled_by g.x 1 (pos (col i))) by
                   ∙ circled_step (step i).x (col i) (col (suc i)) stepped_x (col_small i (le_trans (omega arith) less) earlier) (col_small (suc i) less turn)) j;
-              y = (ap (λ (g : Step). circled_by g.y 1 (pos (row i))) by
+              y = (ap (λ (g : Point Turn). circled_by g.y 1 (pos (row i))) by
                   ∙ circled_step (step i).y (row i) (row (suc i)) stepped_y (row_small i (le_trans (omega arith) less) earlier) (row_small (suc i) less turn)) j;
             };
           };
@@ -191,28 +191,35 @@ module _ (s : Setup) (pen : Pen) (k : Stroke) (x y across down : ℕ) (h : Insid
 
   -- a drawing whose stroke this is
   abbrev Strokes : Drawing → Type 0
-  Strokes d = k ≡ stroke_of s.travel pen.e d
+  Strokes d = stroke_of s.travel pen.e d ≡ Some k
 
-  -- nothing and a block have no stroke that is drawn
+  lined : (rose : Bool) (done : ℕ) → Strokes (Line rose done) → (term_reduced pen.e ≡ true) × (k ≡ line_drawn s.travel pen.e done)
+  lined rose done e = of_line s.travel pen.e done k e
+
+  coded : (count code done : ℕ) → Strokes (Codes count code done)
+      → (only_moves (code_at s.travel.figure.steps count code) ≡ false) × (k ≡ code_drawn (code_at s.travel.figure.steps count code) done)
+  coded count code done e = of_code (code_at s.travel.figure.steps count code) done k e
+
+  -- nothing and a block have no stroke
   idle : (d : Drawing) → Strokes d → is_stroke d ≡ false → ⊥
-  idle (Nothing stopped) e none = false≢true (sym (ap (λ (g : Stroke). g.drawn) e) ∙ h.drawn)
+  idle (Nothing stopped) e none = cc
   idle (Line rose done) e none = false≢true (sym none)
   idle (Codes count code done) e none = false≢true (sym none)
-  idle (Block inside column row) e none = false≢true (sym (ap (λ (g : Stroke). g.drawn) e) ∙ h.drawn)
+  idle (Block inside column row) e none = cc
 
   -- where it begins
   first : (d : Drawing) → Strokes d → (error_of d (error_at t 0) pen.e ≡ pen.e) × (drawing_at 0 d ≡ d)
   unfolding error_at
-  first (Nothing stopped) e = (refl, refl)
+  first (Nothing stopped) e = absurd (idle (Nothing stopped) e refl)
   first (Line rose done) e =
-      let reduced = sym (ap (λ (g : Stroke). g.drawn) e) ∙ h.drawn in
-      (ap (λ (g : Stroke). error_in g.e) e ∙ raised_back pen.e reduced, λ j. Line (and_true rose j) (add-zero done j))
+      let line = lined rose done e in
+      (ap (λ (g : Stroke). error_in g.e) line.1 ∙ raised_back pen.e line.0, λ j. Line (and_true rose j) (add-zero done j))
     where
       and_true : (a : Bool) → (a && true) ≡ a
       and_true true = refl
       and_true false = refl
   first (Codes count code done) e = (refl, λ j. Codes count code (add-zero done j))
-  first (Block inside column row) e = (refl, refl)
+  first (Block inside column row) e = absurd (idle (Block inside column row) e refl)
 
   module _ (i : ℕ) (less : suc i ≤ count) (turn : turns_at t (suc i) ≤ turns) where
     -- a line's step and error term
@@ -226,18 +233,19 @@ module _ (s : Setup) (pen : Pen) (k : Stroke) (x y across down : ℕ) (h : Insid
         let w = error_at t i in
         let k1 = s.travel.k1 in
         let k2 = s.travel.k2 in
+        let line = (lined rose done e).1 in
         ap (λ (b : Bool). circle 8192 16384 (error_in w +ℤ choose b k1 k2)) (below_nought w)
         ∙ error_step w (choose (below i) k1 k2)
         ∙ ap (λ (n : ℕ). error_in ((w + n) % 16384))
-        (sym (choose_part remainder (below i) k1 k2) ∙ (λ j. choose (below i) (sym (ap (λ (g : Stroke). g.k1) e) j) (sym (ap (λ (g : Stroke). g.k2) e) j)))
+        (sym (choose_part remainder (below i) k1 k2) ∙ (λ j. choose (below i) (sym (ap (λ (g : Stroke). g.k1) line) j) (sym (ap (λ (g : Stroke). g.k2) line) j)))
 
     line_next : (rose : Bool) (done : ℕ) → Strokes (Line rose done) → ltb (done + i) s.travel.figure.dimensions.x ≡ true
         → line_moved s.travel (done + i) (on (Line rose done) i) ≡ on (Line rose done) (suc i)
     unfolding line_moved rises
     line_next rose done e reach =
         let here = on (Line rose done) i in
-        let straight = sym (ap (λ (g : Stroke). g.straight) e) in
-        let turned = sym (ap (λ (g : Stroke). g.turned) e) in
+        let straight = sym (ap (λ (g : Stroke). g.straight) (lined rose done e).1) in
+        let turned = sym (ap (λ (g : Stroke). g.turned) (lined rose done e).1) in
         let by : line_step s.travel.course (error_in (error_at t i)) ≡ step i = line_step_lem ∙ (λ j. choose (below i) (straight j) (turned j)) in
         let further : done + i + 1 ≡ done + suc i = omega arith in
         let unmarked = and_no s.travel.course.bounds _ has.unmarked ∙ sym (and_false rose (eqb (suc i) 0) (ne_eqb (suc i) 0 (λ e. omega arith))) in
@@ -254,8 +262,8 @@ module _ (s : Setup) (pen : Pen) (k : Stroke) (x y across down : ℕ) (h : Insid
     unfolding codes_moved
     code_next count code done e reach =
         let here = on (Codes count code done) i in
-        let straight = sym (ap (λ (g : Stroke). g.straight) e) in
-        let turned = sym (ap (λ (g : Stroke). g.turned) e) in
+        let straight = sym (ap (λ (g : Stroke). g.straight) (coded count code done e).1) in
+        let turned = sym (ap (λ (g : Stroke). g.turned) (coded count code done e).1) in
         let one = code_step (code_at s.travel.figure.steps count code) in
         let by : one ≡ step i = sym (same_choice (below i) one) ∙ (λ j. choose (below i) (straight j) (turned j)) in
         let further : done + i + 1 ≡ done + suc i = omega arith in
@@ -268,11 +276,11 @@ module _ (s : Setup) (pen : Pen) (k : Stroke) (x y across down : ℕ) (h : Insid
     unfolding moved moved_by
     next (Nothing stopped) e = absurd (idle (Nothing stopped) e refl)
     next (Line rose done) e =
-        let reach : done + i < s.travel.figure.dimensions.x = omega (arith, less, few, ap (λ (g : Stroke). g.steps) e) in
+        let reach : done + i < s.travel.figure.dimensions.x = omega (arith, less, few, ap (λ (g : Stroke). g.steps) (lined rose done e).1) in
         line_next rose done e (lt-ltb (done + i) s.travel.figure.dimensions.x reach)
     next (Codes n code done) e =
         let last = steps_of (code_at s.travel.figure.steps n code) in
-        let reach : done + i < last = omega (arith, less, few, ap (λ (g : Stroke). g.steps) e) in
+        let reach : done + i < last = omega (arith, less, few, ap (λ (g : Stroke). g.steps) (coded n code done e).1) in
         code_next n code done e (lt-ltb (done + i) last reach)
     next (Block inside column row) e = absurd (idle (Block inside column row) e refl)
 
@@ -282,10 +290,10 @@ module _ (s : Setup) (pen : Pen) (k : Stroke) (x y across down : ℕ) (h : Insid
   last (Nothing stopped) e = absurd (idle (Nothing stopped) e refl)
   last (Line rose done) e =
       let width = s.travel.figure.dimensions.x in
-      choose_false _ _ (le-ltb (done + k.steps) width (omega (arith, ap (λ (g : Stroke). g.steps) e)))
+      choose_false _ _ (le-ltb (done + k.steps) width (omega (arith, ap (λ (g : Stroke). g.steps) (lined rose done e).1)))
   last (Codes n code done) e =
       let steps = steps_of (code_at s.travel.figure.steps n code) in
-      choose_false _ _ (le-ltb (done + k.steps) steps (omega (arith, ap (λ (g : Stroke). g.steps) e)))
+      choose_false _ _ (le-ltb (done + k.steps) steps (omega (arith, ap (λ (g : Stroke). g.steps) (coded n code done e).1)))
   last (Block inside column row) e = absurd (idle (Block inside column row) e refl)
 
   -- ---- its positions
@@ -302,7 +310,7 @@ module _ (s : Setup) (pen : Pen) (k : Stroke) (x y across down : ℕ) (h : Insid
     unfolding is_move
     draws (Nothing stopped) e = refl
     draws (Line rose done) e = refl
-    draws (Codes count code done) e = not-true _ (sym (ap (λ (g : Stroke). g.drawn) e) ∙ h.drawn)
+    draws (Codes count code done) e = (coded count code done e).0
     draws (Block inside column row) e = refl
 
     shown : (d : Drawing) → is_nulled s (on d i) ≡ false
@@ -423,7 +431,7 @@ module _ (s : Setup) (pen : Pen) (k : Stroke) (x y across down : ℕ) (h : Insid
   pub is_stroke_lem : is_stroke pen.drawing ≡ true
   is_stroke_lem = by pen.drawing h.stroke
     where
-      by : (d : Drawing) → k ≡ stroke_of s.travel pen.e d → is_stroke d ≡ true
+      by : (d : Drawing) → Strokes d → is_stroke d ≡ true
       by (Nothing stopped) e = absurd (idle (Nothing stopped) e refl)
       by (Line rose done) e = refl
       by (Codes count code done) e = refl

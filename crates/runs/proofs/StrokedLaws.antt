@@ -1,5 +1,5 @@
 -- What a drawing with strokes has, and a stroke of it: parts of one step, and small terms.
-use Rattle.std.proofs.Common.{◌≡◌, ℕ, Bool, true, false, not, ◌&&◌, ℤ, pos, refl, mod-lt, lit<, eqb-true}
+use Rattle.std.proofs.Common.{◌≡◌, ℕ, Bool, true, false, not, ◌&&◌, ℤ, pos, refl, mod-lt, lit<, eqb-true, Some, None}
 use lib.Signed.{lt_z}
 use borrow.Author.Tests.{not-true}
 use Rattle.numbers.specs.Choose.{choose}
@@ -10,13 +10,18 @@ use Rattle.pixels.specs.declared.Map.{Map}
 use Rattle.rows.specs.Inner.{Termed}
 use Rattle.parts.specs.declared.drawing.Drawing.{Drawing}
 use Rattle.parts.specs.declared.drawing.Drawing.TheVariants.{Nothing, Line, Codes, Block}
-use Rattle.rules.specs.Codes.{code_at}
+use Rattle.parts.specs.Reduced.{term_reduced}
+use Rattle.rules.specs.Codes.{only_moves, code_at}
+use Rattle.moves.specs.declared.Travel.{Travel}
+use Rattle.runs.specs.declared.strokes.Stroke.{Stroke}
 use Rattle.moves.specs.declared.Turn.{Turn}
 use Rattle.moves.specs.declared.Turn.TheVariants.{Stay, Forth, Back}
 use Rattle.moves.specs.Steps.{code_step}
+use Rattle.places.specs.declared.Mode.TheVariants.{AllPixels}
 use Rattle.places.specs.declared.Setup.{Setup}
+use Rattle.places.proofs.ModeLaws.{all_lem}
 use Rattle.runs.specs.Inner.{agrees, is_plain, is_blended, is_straight, has_strokes}
-use Rattle.runs.specs.Inner.{stroke_of, trail_from}
+use Rattle.runs.specs.Inner.{line_drawn, code_drawn, line_stroke, code_stroke, stroke_of, trail_from}
 use Rattle.runs.proofs.PlainLaws.{Plained, plained}
 
 -- ---- what a drawing with strokes has
@@ -30,7 +35,7 @@ pub record Stroked (s : Setup) : Type 0 where
   pub down : agrees s.travel.course.straight.y s.travel.course.y ≡ true
   pub alone : s.travel.source.used ≡ false
   pub colour : s.brush.flow.foreground ≡ false
-  pub mode : s.brush.flow.mode ≡ 0
+  pub mode : s.brush.flow.mode ≡ AllPixels
 
 pub stroked : (s : Setup) → has_strokes s ≡ true → Stroked s
 stroked s has =
@@ -54,7 +59,7 @@ stroked s has =
       down = and_right (agrees course.straight.x course.x) _ parts;
       alone = not-true _ (and_left (not s.travel.source.used) _ (and_left colour _ last));
       colour = not-true _ (and_right (not s.travel.source.used) _ (and_left colour _ last));
-      mode = eqb-true _ _ (and_right colour _ last);
+      mode = all_lem _ (and_right colour _ last);
     }
 
 agrees_self : (t : Turn) → agrees t t ≡ true
@@ -66,19 +71,36 @@ pub same_choice : {A : Type 0} (t : Bool) (a : A) → choose t a a ≡ a
 same_choice true a = refl
 same_choice false a = refl
 
-pub stroke_agrees : (s : Setup) → Stroked s → (e : ℤ) (d : Drawing) → let g = stroke_of s.travel e d in
-    (agrees g.straight.x g.turned.x ≡ true) × (agrees g.straight.y g.turned.y ≡ true)
-stroke_agrees s has e (Nothing stopped) = (agrees_self (code_step 0).x, agrees_self (code_step 0).y)
-stroke_agrees s has e (Line rose done) = (has.across, has.down)
-stroke_agrees s has e (Codes count code done) =
-    let step = code_step (code_at s.travel.figure.steps count code) in (agrees_self step.x, agrees_self step.y)
-stroke_agrees s has e (Block inside column row) = (agrees_self (code_step 0).x, agrees_self (code_step 0).y)
+-- a stroke is that of a line, or that of a code
+pub of_line : (s : Travel) (e : ℤ) (done : ℕ) (k : Stroke) → line_stroke s e done ≡ Some k → (term_reduced e ≡ true) × (k ≡ line_drawn s e done)
+of_line s e done k = by (term_reduced e)
+  where
+    by : (t : Bool) → choose t (Some (line_drawn s e done)) None ≡ Some k → (t ≡ true) × (k ≡ line_drawn s e done)
+    by true is = (refl, cc)
+    by false is = absurd (cc)
+
+pub of_code : (code done : ℕ) (k : Stroke) → code_stroke code done ≡ Some k → (only_moves code ≡ false) × (k ≡ code_drawn code done)
+of_code code done k = by (only_moves code)
+  where
+    by : (t : Bool) → choose t None (Some (code_drawn code done)) ≡ Some k → (t ≡ false) × (k ≡ code_drawn code done)
+    by true is = absurd (cc)
+    by false is = (refl, cc)
+
+pub stroke_agrees : (s : Setup) → Stroked s → (e : ℤ) (d : Drawing) (k : Stroke) → stroke_of s.travel e d ≡ Some k →
+    (agrees k.straight.x k.turned.x ≡ true) × (agrees k.straight.y k.turned.y ≡ true)
+stroke_agrees s has e (Nothing stopped) k is = absurd (cc)
+stroke_agrees s has e (Line rose done) k is = rw (of_line s.travel e done k is).1 (has.across, has.down)
+stroke_agrees s has e (Codes count code done) k is =
+    let step = code_step (code_at s.travel.figure.steps count code) in
+    rw (of_code (code_at s.travel.figure.steps count code) done k is).1 (agrees_self step.x, agrees_self step.y)
+stroke_agrees s has e (Block inside column row) k is = absurd (cc)
 
 -- the terms of a stroke are small
-pub stroke_termed : (s : Setup) (e : ℤ) (d : Drawing) (map : Map) (x y : ℕ) → Termed (trail_from map (stroke_of s.travel e d) x y)
+pub stroke_termed : (s : Setup) (e : ℤ) (d : Drawing) (k : Stroke) (map : Map) (x y : ℕ) → stroke_of s.travel e d ≡ Some k → Termed (trail_from map k x y)
 unfolding forth
-stroke_termed s e (Nothing stopped) map x y = (lit< tt, lit< tt, lit< tt)
-stroke_termed s e (Line rose done) map x y =
-    (mod-lt _ (lit< tt), residue_lt 16384 (lit< tt) s.travel.k1, residue_lt 16384 (lit< tt) s.travel.k2)
-stroke_termed s e (Codes count code done) map x y = (lit< tt, lit< tt, lit< tt)
-stroke_termed s e (Block inside column row) map x y = (lit< tt, lit< tt, lit< tt)
+stroke_termed s e (Nothing stopped) k map x y is = absurd (cc)
+stroke_termed s e (Line rose done) k map x y is =
+    rw (of_line s.travel e done k is).1 (mod-lt _ (lit< tt), residue_lt 16384 (lit< tt) s.travel.k1, residue_lt 16384 (lit< tt) s.travel.k2)
+stroke_termed s e (Codes count code done) k map x y is =
+    rw (of_code (code_at s.travel.figure.steps count code) done k is).1 (lit< tt, lit< tt, lit< tt)
+stroke_termed s e (Block inside column row) k map x y is = absurd (cc)

@@ -1,5 +1,5 @@
 -- How the code draws rows: what functions inside promise and ask of each other, proved from the rules; nothing here has to be believed.
-use Rattle.std.specs.Prelude.{◌≡◌, ℕ, zero, suc, ◌+◌, ◌-◌, ◌*◌, ◌%◌, ◌^◌, ◌<◌, ◌≤◌, min, Bool, true, false, not, ◌&&◌, ◌||◌, List, ℤ, pos, ◌==◌, ◌≢◌, int_lt, nat_lt}
+use Rattle.std.specs.Prelude.{◌≡◌, ℕ, zero, suc, ◌+◌, ◌-◌, ◌*◌, ◌%◌, ◌^◌, ◌<◌, ◌≤◌, min, Bool, true, false, not, ◌&&◌, ◌||◌, List, ℤ, pos, ◌==◌, ◌≢◌, int_lt, nat_lt, Option, Some, None}
 use Rattle.std.proofs.Math.IntN.{sub_ℕ}
 use Rattle.numbers.specs.Choose.{choose}
 use Rattle.numbers.specs.Circles.{forth, residue}
@@ -8,7 +8,6 @@ use Rattle.pixels.specs.Maps.{bits_of}
 use Rattle.pixels.specs.Inner.{place_at}
 use Rattle.mixes.specs.declared.logical.Blend.{Blend}
 use Rattle.mixes.specs.Inner.{blended}
-use Rattle.rows.specs.declared.Whole.{Whole}
 use Rattle.rows.specs.declared.Lane.{Lane}
 use Rattle.rows.specs.declared.Trail.{Trail}
 use Rattle.rows.specs.Inner.{wholly, Alike, Inked, along, Reach}
@@ -18,20 +17,24 @@ use Rattle.parts.specs.Reduced.{term_reduced}
 use Rattle.rules.specs.Codes.{only_moves, steps_of, code_at}
 use Rattle.moves.specs.declared.Turn.{Turn}
 use Rattle.moves.specs.declared.Turn.TheVariants.{Stay, Forth, Back}
-use Rattle.moves.specs.declared.Step.{Step}
+use Rattle.parts.specs.declared.shapes.Point.{Point}
 use Rattle.moves.specs.declared.Course.{Course}
 use Rattle.moves.specs.declared.Travel.{Travel}
 use Rattle.moves.specs.declared.Pen.{Pen}
 use Rattle.moves.specs.Steps.{code_step}
 use Rattle.moves.specs.Moves.{code_passed}
 use Rattle.moves.specs.Inner.{columns_passed}
+use Rattle.places.specs.declared.MaskMode.{MaskMode}
 use Rattle.places.specs.declared.Brush.{Brush}
 use Rattle.places.specs.declared.Setup.{Setup}
-use Rattle.places.specs.Places.{column_of, place_x, on_map, in_mask}
+use Rattle.places.specs.Places.{column_of, place_x, on_map, in_mask, is_disabled, is_enabled, is_all}
 use Rattle.position.specs.declared.Blends.{Blends}
 use Rattle.position.specs.Drawn.{drawn}
 use Rattle.runs.specs.declared.Ran.{Ran}
+use Rattle.runs.specs.declared.plans.RowPlan.{RowPlan}
+use Rattle.runs.specs.declared.plans.StrokePlan.{StrokePlan}
 use Rattle.runs.specs.declared.plans.Plan.{Plan}
+use Rattle.runs.specs.declared.plans.Plan.TheVariants.{Rows, Strokes, Singly}
 use Rattle.runs.specs.declared.plans.Taken.{Taken}
 use Rattle.runs.specs.declared.plans.Taken.TheVariants.{Own, Source, Pattern}
 use Rattle.runs.specs.declared.strokes.Stroke.{Stroke}
@@ -72,13 +75,13 @@ is_stroke (Codes count code done) = true
 is_stroke (Block inside column row) = false
 
 -- the first and the last place inside the mask boundary, and the last inside the map too, on the circle
-abbrev pub low_edge : (mode origin : ℕ) → ℕ
-low_edge mode origin = choose (mode == 0) 0 origin
+abbrev pub low_edge : MaskMode → (origin : ℕ) → ℕ
+low_edge mode origin = choose (is_disabled mode) 0 origin
 
-abbrev pub mask_end : (mode origin extent : ℕ) → ℕ
-mask_end mode origin extent = choose (mode == 0) 6143 (origin + extent)
+abbrev pub mask_end : MaskMode → (origin extent : ℕ) → ℕ
+mask_end mode origin extent = choose (is_disabled mode) 6143 (origin + extent)
 
-abbrev pub high_edge : (last mode origin extent : ℕ) → ℕ
+abbrev pub high_edge : (last : ℕ) → MaskMode → (origin extent : ℕ) → ℕ
 high_edge last mode origin extent = min (min last 6143) (mask_end mode origin extent)
 
 -- the columns and rows that are inside the map and the mask boundary
@@ -106,11 +109,17 @@ goes_back Stay = false
 goes_back Forth = false
 goes_back Back = true
 
+-- no position is kept back by a mask pixel or by the condition
+abbrev pub is_free : Brush → Bool
+is_free b = not (is_enabled b.mask.mode) && b.colours.compare.condition == 4
+
+-- it goes row by row, on either side of the map's left edge
+abbrev pub goes_in_rows : Setup → Bool
+goes_in_rows s = int_lt s.brush.edge (pos 0) && goes_across s.travel.course.x
+
 -- every position is of the foreground, and none is kept back by a mask pixel or by the condition
 abbrev pub is_plain : Setup → Bool
-is_plain s =
-    (not s.brush.flow.fills && not s.travel.pattern.used && not s.brush.flow.derived)
-    && (not (s.brush.mask.mode == 2) && s.brush.colours.compare.condition == 4)
+is_plain s = (not s.brush.flow.fills && not s.travel.pattern.used && not s.brush.flow.derived) && is_free s.brush
 
 -- its mix is logical, of pixels of the map's size, and a source pixel is of the destination's format
 abbrev pub is_blended : Setup → Bool
@@ -120,13 +129,12 @@ is_blended s =
 
 -- rows are drawn as rows
 abbrev pub has_rows : Setup → Bool
-has_rows s = is_plain s && is_blended s && (int_lt s.brush.edge (pos 0) && goes_across s.travel.course.x)
+has_rows s = is_plain s && is_blended s && goes_in_rows s
 
 -- every position is of the ink that its pattern pixel picks, neither takes the source pixel, and none is kept back
 abbrev pub is_inked : Setup → Bool
 is_inked s =
-    ((not s.brush.flow.fills && s.travel.pattern.used) && (not s.brush.flow.foreground && not s.brush.flow.background))
-    && (not (s.brush.mask.mode == 2) && s.brush.colours.compare.condition == 4)
+    ((not s.brush.flow.fills && s.travel.pattern.used) && (not s.brush.flow.foreground && not s.brush.flow.background)) && is_free s.brush
 
 -- both mixes are logical, of pixels of the map's size, which is a byte, and a pattern pixel is a bit
 abbrev pub is_expanded : Setup → Bool
@@ -137,7 +145,7 @@ is_expanded s =
 
 -- rows are drawn through a pattern
 abbrev pub has_inks : Setup → Bool
-has_inks s = is_inked s && is_expanded s && (int_lt s.brush.edge (pos 0) && goes_across s.travel.course.x)
+has_inks s = is_inked s && is_expanded s && goes_in_rows s
 
 -- what the pixels of a row are made of beside themselves decides how they are drawn: of nothing, of the source's, or of the pattern's
 abbrev pub RowsBy : Setup → Taken → Type 0
@@ -159,7 +167,7 @@ is_straight c = (not c.read && not c.bounds) && (agrees c.straight.x c.x && agre
 abbrev pub has_strokes : Setup → Bool
 has_strokes s =
     is_plain s && is_blended s && (int_lt s.brush.edge (pos 0) && is_straight s.travel.course)
-    && ((not s.travel.source.used && not s.brush.flow.foreground) && s.brush.flow.mode == 0)
+    && ((not s.travel.source.used && not s.brush.flow.foreground) && is_all s.brush.flow.mode)
 
 -- the map whose pixels a row takes beside its own
 abbrev pub taken_map : Setup → Taken → Map
@@ -167,23 +175,38 @@ taken_map s Own = s.brush.destination
 taken_map s Source = s.travel.source.map
 taken_map s Pattern = s.travel.pattern.map
 
--- a plan is that of a drawing
-pub record Planned (s : Setup) (p : Plan) : Type 0 where
-  pub rows : p.rows ≡ true → RowsBy s p.takes
-  pub strokes : p.strokes ≡ true → has_strokes s ≡ true
+-- a plan of rows is that of a drawing
+pub record RowPlanned (s : Setup) (p : RowPlan) : Type 0 where
+  pub rows : RowsBy s p.takes
   pub map : p.map ≡ taken_map s p.takes
   pub back : p.back ≡ goes_back s.travel.course.x
+  pub left : p.left ≡ left_edge s.brush
+  pub right : p.right ≡ right_edge s.brush
+
+-- and so is one of strokes
+pub record StrokePlanned (s : Setup) (p : StrokePlan) : Type 0 where
+  pub strokes : has_strokes s ≡ true
   pub left : p.left ≡ left_edge s.brush
   pub right : p.right ≡ right_edge s.brush
   pub top : p.top ≡ top_edge s.brush
   pub bottom : p.bottom ≡ bottom_edge s.brush
 
--- and its blends of bytes are those of the inks' pixels
-abbrev pub BlendOf : Setup → Blend → Whole → Type 0
+abbrev pub Planned : Setup → Plan → Type 0
+Planned s (Rows p) = RowPlanned s p
+Planned s (Strokes p) = StrokePlanned s p
+Planned s Singly = Unit {0}
+
+-- its blends of bytes are those of the inks' pixels
+abbrev pub BlendOf : Setup → Blend ℕ → Blend ℕ → Type 0
 BlendOf s blend whole = Alike s.brush.destination.format (blended (bits_of s.brush.destination.format) blend) (wholly whole)
 
+abbrev pub RowBlended : Setup → Blends → RowPlan → Type 0
+RowBlended s blends p = BlendOf s blends.foreground p.front × BlendOf s blends.background p.rear
+
 abbrev pub Blended : Setup → Blends → Plan → Type 0
-Blended s blends p = BlendOf s blends.foreground p.front × BlendOf s blends.background p.rear
+Blended s blends (Rows p) = RowBlended s blends p
+Blended s blends (Strokes p) = BlendOf s blends.foreground p.whole
+Blended s blends Singly = Unit {0}
 
 -- ---- a stretch of a row
 
@@ -219,19 +242,19 @@ taken_y s Source pen = pen.pointers.source.y
 taken_y s Pattern pen = pen.pointers.pattern.y
 
 -- the lane of a row from the pen's pixel on, back or forth
-abbrev pub lane_by : Setup → Taken → Bool → Pen → Lane
-lane_by s taken back pen =
+abbrev pub lane_by : Setup → Taken → Map → Bool → Pen → Lane
+lane_by s taken map back pen =
     record {
       format = s.brush.destination.format;
       back = back;
-      source = (taken_map s taken).base;
+      source = map.base;
       destination = s.brush.destination.base;
-      from = pixel_number (taken_map s taken) (taken_x s taken pen) (taken_y s taken pen);
+      from = pixel_number map (taken_x s taken pen) (taken_y s taken pen);
       to = pixel_number s.brush.destination (column_at s pen) (row_at pen);
     }
 
-abbrev pub lane_at : Setup → Plan → Pen → Lane
-lane_at s p pen = lane_by s p.takes p.back pen
+abbrev pub lane_at : Setup → RowPlan → Pen → Lane
+lane_at s p pen = lane_by s p.takes p.map p.back pen
 
 -- what is made of a pixel that is taken and one of the destination
 abbrev pub row_op : Setup → Blends → Taken → ℕ → ℕ → ℕ
@@ -242,7 +265,7 @@ row_op s blends Pattern S D =
     (blended (bits_of s.brush.destination.format) blends.foreground 0 D)
 
 -- an operation of pixels is that of a lane's bytes: the blend's, or that of the ink which a pattern pixel picks
-abbrev pub Makes : Taken → (format : ℕ) → (op : ℕ → ℕ → ℕ) → (front rear : Whole) → Type 0
+abbrev pub Makes : Taken → (format : ℕ) → (op : ℕ → ℕ → ℕ) → (front rear : Blend ℕ) → Type 0
 Makes Own format op front rear = Alike format op (wholly front)
 Makes Source format op front rear = Alike format op (wholly front)
 Makes Pattern format op front rear = Inked op front rear
@@ -275,7 +298,7 @@ pub record Laid (taken : Taken) (order : ℕ) (l : Lane) (n size : ℕ) : Type 0
   pub destination : (i : ℕ) → i < n → place_at l.format l.destination (along l.back l.to i) < size
 
 -- k positions from the pen on are alike: in one row, inside the map and the mask boundary, and no pointer wraps between them
-pub record Stretch (s : Setup) (p : Plan) (pen : Pen) (k : ℕ) : Type 0 where
+pub record Stretch (s : Setup) (p : RowPlan) (pen : Pen) (k : ℕ) : Type 0 where
   pub column : ℕ
   pub row : ℕ
   pub drawing : pen.drawing ≡ Block false column row
@@ -284,7 +307,7 @@ pub record Stretch (s : Setup) (p : Plan) (pen : Pen) (k : ℕ) : Type 0 where
   pub on : on_map s.brush pen ≡ true
   pub inside : in_mask s.brush pen ≡ true
   pub columns : Spans p.back (column_at s pen) k p.left p.right
-  pub taken : Spans p.back (taken_x s p.takes pen) k 0 (taken_map s p.takes).width
+  pub taken : Spans p.back (taken_x s p.takes pen) k 0 p.map.width
 
 -- ---- a stroke
 
@@ -298,11 +321,10 @@ raised e = forth 16384 8192 (residue 16384 e)
 abbrev pub error_in : ℕ → ℤ
 error_in e = sub_ℕ e 8192
 
--- the stroke of a line
-abbrev pub line_stroke : Travel → ℤ → ℕ → Stroke
-line_stroke s e done =
+-- the stroke of a line, and of a code, which never turns
+abbrev pub line_drawn : Travel → ℤ → ℕ → Stroke
+line_drawn s e done =
     record {
-      drawn = term_reduced e;
       straight = s.course.straight;
       turned = record { x = s.course.x; y = s.course.y };
       e = raised e;
@@ -311,17 +333,23 @@ line_stroke s e done =
       steps = s.figure.dimensions.x - done;
     }
 
--- the stroke of a code, which never turns
-abbrev pub code_stroke : (code done : ℕ) → Stroke
-code_stroke code done =
-    record { drawn = not (only_moves code); straight = code_step code; turned = code_step code; e = 0; k1 = 0; k2 = 0; steps = steps_of code - done }
+abbrev pub code_drawn : (code done : ℕ) → Stroke
+code_drawn code done =
+    record { straight = code_step code; turned = code_step code; e = 0; k1 = 0; k2 = 0; steps = steps_of code - done }
 
--- the stroke of a drawing; a code of 0 draws nothing
-abbrev pub stroke_of : Travel → ℤ → Drawing → Stroke
-stroke_of s e (Nothing stopped) = code_stroke 0 0
+-- a line has none whose error term is not reduced, and a code none that only moves
+abbrev pub line_stroke : Travel → ℤ → ℕ → Option Stroke
+line_stroke s e done = choose (term_reduced e) (Some (line_drawn s e done)) None
+
+abbrev pub code_stroke : (code done : ℕ) → Option Stroke
+code_stroke code done = choose (only_moves code) None (Some (code_drawn code done))
+
+-- the stroke of a drawing
+abbrev pub stroke_of : Travel → ℤ → Drawing → Option Stroke
+stroke_of s e (Nothing stopped) = None
 stroke_of s e (Line rose done) = line_stroke s e done
 stroke_of s e (Codes count code done) = code_stroke (code_at s.figure.steps count code) done
-stroke_of s e (Block inside column row) = code_stroke 0 0
+stroke_of s e (Block inside column row) = None
 
 -- how far a turn moves the number of a pixel, past last + 1 of them, as a number that wraps; and how far a step does
 abbrev pub stride_by : Turn → (last : ℕ) → ℕ
@@ -329,7 +357,7 @@ stride_by Stay last = 0
 stride_by Forth last = last + 1
 stride_by Back last = 2 ^ 32 - 1 - last
 
-abbrev pub stride_of : (width : ℕ) → Step → ℕ
+abbrev pub stride_of : (width : ℕ) → Point Turn → ℕ
 stride_of width step = (stride_by step.x 0 + stride_by step.y width) % 2 ^ 32
 
 -- the trail of a stroke from a pixel on
@@ -385,8 +413,7 @@ pen_at x y e drawing pen =
 -- a stroke from a pixel that is inside on, and how many places back or forth from there are inside
 pub record Inside (s : Setup) (pen : Pen) (k : Stroke) (x y across down : ℕ) : Type 0 where
   pub has : has_strokes s ≡ true
-  pub stroke : k ≡ stroke_of s.travel pen.e pen.drawing
-  pub drawn : k.drawn ≡ true
+  pub stroke : stroke_of s.travel pen.e pen.drawing ≡ Some k
   pub small : done_in pen.drawing + k.steps < 2 ^ 16
   pub on : on_map s.brush pen ≡ true
   pub column : x ≡ column_at s pen

@@ -7,23 +7,19 @@ ghost use Rattle.rows.specs.Inner.{swept_from};
 ghost use Rattle.runs.specs.Inner as inner;
 ghost use Rattle.runs.specs.Inner.{Makes, Laid};
 
-use crate::plans::Taken;
+use crate::plans::{RowPlan, Taken};
 use pixels::shift_at;
+use rows::Lane;
 use rows::patterns::expand;
 use rows::ranges::is_apart;
 use rows::slides::slide;
 use rows::sweeps::sweep;
-use rows::{Lane, Whole};
 
 // Whether a row is drawn through a pattern.
 fn is_pattern(taken: Taken) -> bool
     ensures { result ≡ inner.is_pattern taken }
 {
-    match taken {
-        Taken::Own => false,
-        Taken::Source => false,
-        Taken::Pattern => true,
-    }
+    matches!(taken, Taken::Pattern)
 }
 
 // Whether the lane's pixels lie as far up in their bytes as those that they come from.
@@ -35,50 +31,34 @@ fn is_in_phase(lane: Lane) -> bool
 }
 
 // The pixels of a lane that no byte of those lies among which it takes: through a pattern, or shifted in their bytes.
-fn draw_apart(
-    memory: &mut [u8],
-    taken: Taken,
-    order: u8,
-    lane: Lane,
-    front: Whole,
-    rear: Whole,
-    count: u32,
-)
-    requires { Laid taken order lane count (length memory.old)
-        × inner.Separate order lane count
-        × (inner.is_pattern taken ≡ false → shift_at lane.format lane.to ≢ shift_at lane.format lane.from) }
-    ensures { (op : ℕ → ℕ → ℕ) → Makes taken lane.format op front rear
-        → memory.new ≡ swept_from order op lane count memory.old }
+fn draw_apart(memory: &mut [u8], plan: &RowPlan, lane: Lane, count: u32)
+    requires { Laid plan.now.takes plan.now.map.format lane count (length memory.old)
+        × inner.Separate plan.now.map.format lane count
+        × (inner.is_pattern plan.now.takes ≡ false → shift_at lane.format lane.to ≢ shift_at lane.format lane.from) }
+    ensures { (op : ℕ → ℕ → ℕ) → Makes plan.now.takes lane.format op plan.now.front plan.now.rear
+        → memory.new ≡ swept_from plan.now.map.format op lane count memory.old }
 {
-    if is_pattern(taken) {
-        expand(memory, lane, order, front, rear, count);
+    if is_pattern(plan.takes) {
+        expand(memory, lane, plan.map.format, plan.front, plan.rear, count);
     } else {
-        slide(memory, lane, front, count);
+        slide(memory, lane, plan.front, count);
     }
 }
 
 // The pixels of a lane, and whether they were drawn: in phase always, and otherwise where they lie apart from those that they take.
-pub(crate) fn draw_lane(
-    memory: &mut [u8],
-    taken: Taken,
-    order: u8,
-    lane: Lane,
-    front: Whole,
-    rear: Whole,
-    count: u32,
-) -> bool
-    requires { Laid taken order lane count (length memory.old) }
+pub(crate) fn draw_lane(memory: &mut [u8], plan: &RowPlan, lane: Lane, count: u32) -> bool
+    requires { Laid plan.now.takes plan.now.map.format lane count (length memory.old) }
     ensures { (result ≡ false → memory.new ≡ memory.old)
-        × (result ≡ true → (op : ℕ → ℕ → ℕ) → Makes taken lane.format op front rear
-        → memory.new ≡ swept_from order op lane count memory.old) }
+        × (result ≡ true → (op : ℕ → ℕ → ℕ) → Makes plan.now.takes lane.format op plan.now.front plan.now.rear
+        → memory.new ≡ swept_from plan.now.map.format op lane count memory.old) }
 {
-    if !is_pattern(taken) & is_in_phase(lane) {
-        sweep(memory, lane, front, count);
+    if !is_pattern(plan.takes) & is_in_phase(lane) {
+        sweep(memory, lane, plan.front, count);
         return true;
     }
-    if !is_apart(lane, order, count) {
+    if !is_apart(lane, plan.map.format, count) {
         return false;
     }
-    draw_apart(memory, taken, order, lane, front, rear, count);
+    draw_apart(memory, plan, lane, count);
     true
 }

@@ -6,6 +6,7 @@ ghost use Rattle.parts.specs.Drawings.{unfinished};
 ghost use Rattle.position.specs.Inner.{Safe};
 ghost use Rattle.runs.specs.Runs.{begun, after};
 
+use jobs::Job;
 use moves::Pen;
 use parts::drawing::is_unfinished;
 use places::Setup;
@@ -13,6 +14,7 @@ use plans::plan_of;
 use position::inks::blends_of;
 use turns::turn;
 
+mod jobs;
 mod lanes;
 mod plans;
 mod singly;
@@ -36,17 +38,18 @@ pub fn run(setup: Setup, from: Pen, memory: &mut [u8], allowance: u32) -> Ran
         × (memory.new ≡ (after setup allowance (begun from memory.old)).memory) }
 {
     let blends = blends_of(setup.brush);
-    let first = from.drawing;
-    let plan = plan_of(setup, blends, first);
+    let job = Job {
+        setup,
+        blends,
+        plan: plan_of(setup, blends, from.drawing),
+    };
     let mut pen = from;
     let mut done: u32 = 0;
-    let mut going = is_unfinished(first);
-    while (done < allowance) & going {
-        let turned = turn(setup, blends, plan, memory, pen, allowance - done);
+    // A turn does several positions, so it is no `for` over them.
+    while (done < allowance) & is_unfinished(pen.drawing) {
+        let turned = turn(&job, memory, pen, allowance - done);
         pen = turned.pen;
         done += turned.done;
-        let drawing = pen.drawing;
-        going = is_unfinished(drawing);
     }
     Ran { pen, done }
 }

@@ -1,14 +1,14 @@
 // What the rows of a drawing have in common, worked once.
 
-ghost use Rattle.std.specs.Prelude.{◌≡◌, min, true, false, ◌&&◌, nat_lt};
+ghost use Rattle.std.specs.Prelude.{◌≡◌, true, false, ◌&&◌, nat_lt};
 ghost use Rattle.numbers.specs.Choose.{choose};
 ghost use Rattle.runs.specs.Inner as inner;
-ghost use Rattle.runs.specs.Inner.{low_edge, mask_end, high_edge, is_plain, is_blended, is_inked, is_expanded, has_rows, has_inks, has_strokes, taken_map, Planned, Blended};
+ghost use Rattle.runs.specs.Inner.{low_edge, mask_end, high_edge, is_free, goes_in_rows, is_plain, is_blended, is_inked, is_expanded, has_rows, has_inks, has_strokes, taken_map, RowPlanned, StrokePlanned, Planned, BlendOf, RowBlended, Blended};
 
 use moves::{Course, Turn};
 use parts::drawing::Drawing;
 use pixels::{Map, bits_of};
-use places::{Brush, Setup};
+use places::{Brush, MaskMode, Mode, Setup};
 use position::Blends;
 use rows::Whole;
 use rows::wholes::whole_of;
@@ -21,21 +21,43 @@ pub enum Taken {
     Pattern,
 }
 
-// How a drawing is drawn: whether as rows or as strokes, what its rows take and of which map, whether they go back, the first and the
-// last column and row that may be painted, and the blends of whole bytes, of the foreground and of the background.
+// What the rows of a drawing have in common: what they take and of which map, whether they go back, the first and the last column that
+// may be painted, and the blends of whole bytes, of the foreground and of the background.
 #[derive(Clone, Copy)]
-pub struct Plan {
-    pub rows: bool,
-    pub strokes: bool,
+pub struct RowPlan {
     pub takes: Taken,
     pub map: Map,
     pub back: bool,
     pub left: u16,
     pub right: u16,
-    pub top: u16,
-    pub bottom: u16,
     pub front: Whole,
     pub rear: Whole,
+}
+
+// What the strokes of a drawing have in common: the first and the last column and row that may be painted, and the blend of whole
+// bytes.
+#[derive(Clone, Copy)]
+pub struct StrokePlan {
+    pub left: u16,
+    pub right: u16,
+    pub top: u16,
+    pub bottom: u16,
+    pub whole: Whole,
+}
+
+// How a drawing is drawn: as rows, as strokes, or position by position.
+#[derive(Clone, Copy)]
+pub enum Plan {
+    Rows(RowPlan),
+    Strokes(StrokePlan),
+    Singly,
+}
+
+// Whether no position is kept back by a mask pixel or by the condition.
+fn is_free(brush: Brush) -> bool
+    ensures { result ≡ is_free brush }
+{
+    (brush.mask.mode != MaskMode::Enabled) & (brush.colours.compare.condition == 4)
 }
 
 // Whether every position is of the foreground, and none is kept back by a mask pixel or by the condition.
@@ -43,8 +65,7 @@ fn is_plain(setup: Setup) -> bool
     ensures { result ≡ is_plain setup }
 {
     let brush = setup.brush;
-    (!brush.flow.fills & !setup.travel.pattern.used & !brush.flow.derived)
-        & ((brush.mask.mode != 2) & (brush.colours.compare.condition == 4))
+    (!brush.flow.fills & !setup.travel.pattern.used & !brush.flow.derived) & is_free(brush)
 }
 
 // Whether the mix is logical, of pixels of the map's size, and a source pixel is of the destination's format.
@@ -60,31 +81,28 @@ fn is_blended(setup: Setup) -> bool
 pub(crate) fn goes_across(turn: Turn) -> bool
     ensures { result ≡ inner.goes_across turn }
 {
-    match turn {
-        Turn::Stay => false,
-        Turn::Forth => true,
-        Turn::Back => true,
-    }
+    !matches!(turn, Turn::Stay)
 }
 
 // Whether it goes back.
 pub(crate) fn goes_back(turn: Turn) -> bool
     ensures { result ≡ inner.goes_back turn }
 {
-    match turn {
-        Turn::Stay => false,
-        Turn::Forth => false,
-        Turn::Back => true,
-    }
+    matches!(turn, Turn::Back)
+}
+
+// Whether a drawing goes row by row, on either side of the map's left edge.
+fn goes_in_rows(setup: Setup) -> bool
+    ensures { result ≡ goes_in_rows setup }
+{
+    (setup.brush.edge < 0) & goes_across(setup.travel.course.x)
 }
 
 // Whether rows are drawn as rows.
 fn has_rows(setup: Setup) -> bool
     ensures { result ≡ has_rows setup }
 {
-    let course = setup.travel.course;
-    let across = course.x;
-    is_plain(setup) & is_blended(setup) & ((setup.brush.edge < 0) & goes_across(across))
+    is_plain(setup) & is_blended(setup) & goes_in_rows(setup)
 }
 
 // Whether every position is of the ink that its pattern pixel picks, neither takes the source pixel, and none is kept back.
@@ -94,7 +112,7 @@ fn is_inked(setup: Setup) -> bool
     let brush = setup.brush;
     ((!brush.flow.fills & setup.travel.pattern.used)
         & (!brush.flow.foreground & !brush.flow.background))
-        & ((brush.mask.mode != 2) & (brush.colours.compare.condition == 4))
+        & is_free(brush)
 }
 
 // Whether both mixes are logical, of pixels of the map's size, which is a byte, and a pattern pixel is a bit.
@@ -112,9 +130,7 @@ fn is_expanded(setup: Setup) -> bool
 fn has_inks(setup: Setup) -> bool
     ensures { result ≡ has_inks setup }
 {
-    let course = setup.travel.course;
-    let across = course.x;
-    is_inked(setup) & is_expanded(setup) & ((setup.brush.edge < 0) & goes_across(across))
+    is_inked(setup) & is_expanded(setup) & goes_in_rows(setup)
 }
 
 // Whether a straight step is a part of the turned one.
@@ -123,7 +139,7 @@ fn agrees(straight: Turn, turned: Turn) -> bool
 {
     match straight {
         Turn::Stay => true,
-        Turn::Forth => goes_across(turned) & !goes_back(turned),
+        Turn::Forth => matches!(turned, Turn::Forth),
         Turn::Back => goes_back(turned),
     }
 }
@@ -132,45 +148,37 @@ fn agrees(straight: Turn, turned: Turn) -> bool
 fn is_straight(course: Course) -> bool
     ensures { result ≡ inner.is_straight course }
 {
-    let straight = course.straight;
-    let across = straight.x;
-    let down = straight.y;
-    let x = course.x;
-    let y = course.y;
-    (!course.read & !course.bounds) & (agrees(across, x) & agrees(down, y))
+    (!course.read & !course.bounds)
+        & (agrees(course.straight.x, course.x) & agrees(course.straight.y, course.y))
 }
 
 // Whether lines and codes are drawn as strokes.
 fn has_strokes(setup: Setup) -> bool
     ensures { result ≡ has_strokes setup }
 {
-    let course = setup.travel.course;
     let flow = setup.brush.flow;
     is_plain(setup)
         & is_blended(setup)
-        & ((setup.brush.edge < 0) & is_straight(course))
-        & ((!setup.travel.source.used & !flow.foreground) & (flow.mode == 0))
-}
-
-// The lesser of two numbers.
-pub(crate) fn least(a: u32, b: u32) -> u32
-    ensures { result ≡ min a b }
-{
-    if a < b { a } else { b }
+        & ((setup.brush.edge < 0) & is_straight(setup.travel.course))
+        & ((!setup.travel.source.used & !flow.foreground) & (flow.mode == Mode::AllPixels))
 }
 
 // The first column or row inside the mask boundary.
-fn low_edge(mode: u8, origin: u16) -> u16
+fn low_edge(mode: MaskMode, origin: u16) -> u16
     ensures { result ≡ low_edge mode origin }
 {
-    if mode == 0 { 0 } else { origin }
+    if mode == MaskMode::Disabled {
+        0
+    } else {
+        origin
+    }
 }
 
 // The last column or row of the mask boundary, and the circle's where there is none.
-fn mask_end(mode: u8, origin: u16, extent: u16) -> u32
+fn mask_end(mode: MaskMode, origin: u16, extent: u16) -> u32
     ensures { result ≡ mask_end mode origin extent }
 {
-    if mode == 0 {
+    if mode == MaskMode::Disabled {
         6143
     } else {
         origin as u32 + extent as u32
@@ -178,55 +186,27 @@ fn mask_end(mode: u8, origin: u16, extent: u16) -> u32
 }
 
 // The last column or row inside the map and the mask boundary, on the circle.
-fn high_edge(last: u16, mode: u8, origin: u16, extent: u16) -> u16
+fn high_edge(last: u16, mode: MaskMode, origin: u16, extent: u16) -> u16
     ensures { result ≡ high_edge last mode origin extent }
 {
-    least(least(last as u32, 6143), mask_end(mode, origin, extent)) as u16
+    (last as u32).min(6143).min(mask_end(mode, origin, extent)) as u16
 }
 
 // The widest rows, less one, that are drawn position by position.
 const NARROW: u16 = 2;
 
-// Whether a drawing is a block.
-fn is_block(drawing: Drawing) -> bool
-    ensures { result ≡ inner.is_block drawing }
-{
-    match drawing {
-        Drawing::Nothing { .. } => false,
-        Drawing::Line { .. } => false,
-        Drawing::Codes { .. } => false,
-        Drawing::Block { .. } => true,
-    }
-}
-
 // Whether a drawing is a block of rows that are wide enough.
 fn is_wide(setup: Setup, drawing: Drawing) -> bool
     ensures { result ≡ (nat_lt 2 setup.travel.figure.dimensions.x && inner.is_block drawing) }
 {
-    (NARROW < setup.travel.figure.dimensions.x) & is_block(drawing)
+    (NARROW < setup.travel.figure.dimensions.x) & matches!(drawing, Drawing::Block { .. })
 }
 
 // Whether a drawing is a line or codes.
 fn is_stroke(drawing: Drawing) -> bool
     ensures { result ≡ inner.is_stroke drawing }
 {
-    match drawing {
-        Drawing::Nothing { .. } => false,
-        Drawing::Line { .. } => true,
-        Drawing::Codes { .. } => true,
-        Drawing::Block { .. } => false,
-    }
-}
-
-// What the rows of a drawing without a pattern take.
-fn plain_taken(foreground: bool) -> Taken
-    ensures { result ≡ choose foreground Taken.Source Taken.Own }
-{
-    if foreground {
-        Taken::Source
-    } else {
-        Taken::Own
-    }
+    matches!(drawing, Drawing::Line { .. } | Drawing::Codes { .. })
 }
 
 // What the rows of a drawing take.
@@ -235,8 +215,10 @@ fn taken_of(setup: Setup, inks: bool) -> Taken
 {
     if inks {
         Taken::Pattern
+    } else if setup.brush.flow.foreground {
+        Taken::Source
     } else {
-        plain_taken(setup.brush.flow.foreground)
+        Taken::Own
     }
 }
 
@@ -251,24 +233,36 @@ fn taken_map(setup: Setup, taken: Taken) -> Map
     }
 }
 
-// The plan of a drawing that is drawn as rows, through a pattern or not, as strokes, or as neither.
-fn plan_by(setup: Setup, blends: Blends, rows: bool, inks: bool, strokes: bool) -> Plan
-    requires { (rows ≡ true → inks ≡ false → has_rows setup ≡ true)
-        × (rows ≡ true → inks ≡ true → has_inks setup ≡ true)
-        × (strokes ≡ true → has_strokes setup ≡ true) }
-    ensures { Planned setup result × Blended setup blends result }
+// The plan of rows, through a pattern or not.
+fn row_plan(setup: Setup, blends: Blends, inks: bool) -> RowPlan
+    requires { (inks ≡ false → has_rows setup ≡ true) × (inks ≡ true → has_inks setup ≡ true) }
+    ensures { RowPlanned setup result × RowBlended setup blends result }
 {
-    let course = setup.travel.course;
-    let across = course.x;
     let mask = setup.brush.mask;
     let takes = taken_of(setup, inks);
-    let map = taken_map(setup, takes);
-    Plan {
-        rows,
-        strokes,
+    RowPlan {
         takes,
-        map,
-        back: goes_back(across),
+        map: taken_map(setup, takes),
+        back: goes_back(setup.travel.course.x),
+        left: low_edge(mask.mode, mask.origin.x),
+        right: high_edge(
+            setup.brush.destination.width,
+            mask.mode,
+            mask.origin.x,
+            mask.map.width,
+        ),
+        front: whole_of(setup.brush.destination.format, blends.foreground),
+        rear: whole_of(setup.brush.destination.format, blends.background),
+    }
+}
+
+// The plan of strokes.
+fn stroke_plan(setup: Setup, blends: Blends) -> StrokePlan
+    requires { has_strokes setup ≡ true }
+    ensures { StrokePlanned setup result × BlendOf setup blends.foreground result.whole }
+{
+    let mask = setup.brush.mask;
+    StrokePlan {
         left: low_edge(mask.mode, mask.origin.x),
         right: high_edge(
             setup.brush.destination.width,
@@ -283,8 +277,7 @@ fn plan_by(setup: Setup, blends: Blends, rows: bool, inks: bool, strokes: bool) 
             mask.origin.y,
             mask.map.height,
         ),
-        front: whole_of(setup.brush.destination.format, blends.foreground),
-        rear: whole_of(setup.brush.destination.format, blends.background),
+        whole: whole_of(setup.brush.destination.format, blends.foreground),
     }
 }
 
@@ -293,7 +286,11 @@ pub(crate) fn plan_of(setup: Setup, blends: Blends, drawing: Drawing) -> Plan
     ensures { Planned setup result × Blended setup blends result }
 {
     let inks = has_inks(setup);
-    let rows = is_wide(setup, drawing) & (inks | has_rows(setup));
-    let strokes = is_stroke(drawing) & has_strokes(setup);
-    plan_by(setup, blends, rows, inks, strokes)
+    if is_wide(setup, drawing) & (inks | has_rows(setup)) {
+        return Plan::Rows(row_plan(setup, blends, inks));
+    }
+    if is_stroke(drawing) & has_strokes(setup) {
+        return Plan::Strokes(stroke_plan(setup, blends));
+    }
+    Plan::Singly
 }

@@ -4,14 +4,14 @@ ghost use Rattle.std.specs.Prelude.{◌≡◌, ℕ, ◌+◌, ◌-◌, ◌*◌, �
 ghost use Rattle.parts.specs.declared.drawing.Drawing.TheVariants.{Block};
 ghost use Rattle.moves.specs.Moves.{moved};
 ghost use Rattle.moves.specs.Inner.{OnCircle, pointers_inside, columns_passed};
-ghost use Rattle.position.specs.declared.Blends.{Blends};
-ghost use Rattle.position.specs.Inner.{InkBlends, Safe};
+ghost use Rattle.position.specs.Inner.{Safe};
 ghost use Rattle.runs.specs.Inner as inner;
-ghost use Rattle.runs.specs.Inner.{Planned, Blended, taken_map, Spans, Sized, column_at, lane_at, Stretch, Did};
+ghost use Rattle.runs.specs.Inner.{RowPlanned, RowBlended, Spans, Sized, column_at, lane_at, Stretch, Did};
 
 use crate::Ran;
+use crate::jobs::Job;
 use crate::lanes::draw_lane;
-use crate::plans::{Plan, Taken, least};
+use crate::plans::{RowPlan, Taken};
 use moves::pens::{pass_columns, return_row};
 use moves::ways::row_after;
 use moves::{Pen, Travel};
@@ -40,11 +40,7 @@ pub(crate) fn span(back: bool, here: u16, low: u16, high: u16) -> u32
 fn rest(column: u16, last: u16) -> u32
     ensures { (result ≡ last - column + 1) × (column + result ≤ 2 ^ 16) }
 {
-    if column < last {
-        last as u32 - column as u32 + 1
-    } else {
-        1
-    }
+    last.saturating_sub(column) as u32 + 1
 }
 
 // How many pixels of the map come before this one.
@@ -55,52 +51,39 @@ pub(crate) fn number(map: Map, x: u16, y: u16) -> u32
 }
 
 // The first pixel that a row takes beside its own.
-fn taken_point(setup: Setup, taken: Taken, pen: Pen) -> Point
+fn taken_point(setup: Setup, taken: Taken, pen: Pen) -> Point<u16>
     ensures { (result.x ≡ inner.taken_x setup taken pen) × (result.y ≡ inner.taken_y setup taken pen) }
 {
     match taken {
         Taken::Own => destination_of(setup.brush, pen),
-        Taken::Source => Point {
-            x: pen.pointers.source.x,
-            y: pen.pointers.source.y,
-        },
-        Taken::Pattern => Point {
-            x: pen.pointers.pattern.x,
-            y: pen.pointers.pattern.y,
-        },
+        Taken::Source => pen.pointers.source,
+        Taken::Pattern => pen.pointers.pattern,
     }
 }
 
 // How many columns from the pen on may be painted, before the pointer wraps that is taken.
-fn reach(setup: Setup, plan: Plan, pen: Pen) -> u32
-    requires { plan.map ≡ taken_map setup plan.takes }
-    ensures { 0 < result → Spans plan.back (column_at setup pen) result plan.left plan.right
-        × Spans plan.back (inner.taken_x setup plan.takes pen) result 0 (taken_map setup plan.takes).width }
+fn reach(setup: Setup, plan: &RowPlan, pen: Pen) -> u32
+    ensures { 0 < result → Spans plan.now.back (column_at setup pen) result plan.now.left plan.now.right
+        × Spans plan.now.back (inner.taken_x setup plan.now.takes pen) result 0 plan.now.map.width }
 {
-    let taken = plan.takes;
     let at = destination_of(setup.brush, pen);
-    let point = taken_point(setup, taken, pen);
-    least(
-        span(plan.back, at.x, plan.left, plan.right),
-        span(plan.back, point.x, 0, plan.map.width),
-    )
+    let point = taken_point(setup, plan.takes, pen);
+    let columns = span(plan.back, at.x, plan.left, plan.right);
+    columns.min(span(plan.back, point.x, 0, plan.map.width))
 }
 
 // The lane of the row from the pen's pixel on.
-fn lane_of(setup: Setup, plan: Plan, pen: Pen) -> Lane
-    requires { plan.map ≡ taken_map setup plan.takes }
-    ensures { (result ≡ lane_at setup plan pen) × Sized setup.brush.destination × Sized (taken_map setup plan.takes) }
+fn lane_of(setup: Setup, plan: &RowPlan, pen: Pen) -> Lane
+    ensures { (result ≡ lane_at setup plan.now pen) × Sized setup.brush.destination × Sized plan.now.map }
 {
-    let taken = plan.takes;
     let at = destination_of(setup.brush, pen);
-    let map = plan.map;
-    let point = taken_point(setup, taken, pen);
+    let point = taken_point(setup, plan.takes, pen);
     Lane {
         format: setup.brush.destination.format,
         back: plan.back,
-        source: map.base,
+        source: plan.map.base,
         destination: setup.brush.destination.base,
-        from: number(map, point.x, point.y),
+        from: number(plan.map, point.x, point.y),
         to: number(setup.brush.destination, at.x, at.y),
     }
 }
@@ -108,14 +91,13 @@ fn lane_of(setup: Setup, plan: Plan, pen: Pen) -> Lane
 // How many positions from this column of a block on are alike, and no more than are allowed; none where the first is not painted.
 fn block_length(
     setup: Setup,
-    plan: Plan,
+    plan: &RowPlan,
     pen: Pen,
     inside: bool,
     column: u16,
     allowance: u32,
 ) -> u32
-    requires { plan.map ≡ taken_map setup plan.takes }
-    ensures { (row : ℕ) → pen.drawing ≡ Block inside column row → 0 < result → Stretch setup plan pen result × (result ≤ allowance) }
+    ensures { (row : ℕ) → pen.drawing ≡ Block inside column row → 0 < result → Stretch setup plan.now pen result × (result ≤ allowance) }
 {
     if inside | !on_map(setup.brush, pen) {
         return 0;
@@ -123,31 +105,18 @@ fn block_length(
     if !in_mask(setup.brush, pen) {
         return 0;
     }
-    least(
-        least(allowance, rest(column, setup.travel.figure.dimensions.x)),
-        reach(setup, plan, pen),
-    )
+    let left = allowance.min(rest(column, setup.travel.figure.dimensions.x));
+    left.min(reach(setup, plan, pen))
 }
 
-// How many positions from the pen on are alike, and no more than are allowed; none but of a block that is drawn by rows.
-fn length_of(setup: Setup, plan: Plan, pen: Pen, allowance: u32) -> u32
-    requires { plan.map ≡ taken_map setup plan.takes }
-    ensures { 0 < result → (plan.rows ≡ true) × Stretch setup plan pen result × (result ≤ allowance) }
+// How many positions from the pen on are alike, and no more than are allowed; none but of a block.
+fn length_of(setup: Setup, plan: &RowPlan, pen: Pen, allowance: u32) -> u32
+    ensures { 0 < result → Stretch setup plan.now pen result × (result ≤ allowance) }
 {
-    if !plan.rows {
+    let Drawing::Block { inside, column, .. } = pen.drawing else {
         return 0;
-    }
-    let drawing = pen.drawing;
-    match drawing {
-        Drawing::Nothing { .. } => 0,
-        Drawing::Line { .. } => 0,
-        Drawing::Codes { .. } => 0,
-        Drawing::Block {
-            inside,
-            column,
-            row: _,
-        } => block_length(setup, plan, pen, inside, column, allowance),
-    }
+    };
+    block_length(setup, plan, pen, inside, column, allowance)
 }
 
 // The pen after so many positions of a row, from this column and row of a block on, of which the last may end it.
@@ -191,45 +160,35 @@ fn pass_stretch(travel: Travel, count: u32, pen: Pen) -> Pen
     ensures { (column row : ℕ) → pen.drawing ≡ Block false column row
         → result ≡ moved travel (columns_passed travel (count - 1) (Block false (column + (count - 1)) row) pen) }
 {
-    let drawing = pen.drawing;
-    match drawing {
-        Drawing::Nothing { .. } => pen,
-        Drawing::Line { .. } => pen,
-        Drawing::Codes { .. } => pen,
-        Drawing::Block {
-            inside: _,
-            column,
-            row,
-        } => pass(travel, count, column, row, pen),
-    }
+    let Drawing::Block { column, row, .. } = pen.drawing else {
+        return pen;
+    };
+    pass(travel, count, column, row, pen)
 }
 
 // The next positions of a row that are alike, and at most as many as are allowed; none where the first is not painted.
-pub(crate) fn draw_row(setup: Setup, plan: Plan, memory: &mut [u8], pen: Pen, allowance: u32) -> Ran
-    requires { Planned setup plan × Safe setup (length memory.old) pen }
-    ensures { (result.done ≤ allowance)
-        × ((blends : Blends) → InkBlends setup.brush blends → Blended setup blends plan
-        → Did setup pen memory.old memory.new result) }
+pub(crate) fn draw_row(
+    job: &Job,
+    plan: &RowPlan,
+    memory: &mut [u8],
+    pen: Pen,
+    allowance: u32,
+) -> Ran
+    requires { RowPlanned job.now.setup plan.now
+        × RowBlended job.now.setup job.now.blends plan.now
+        × Safe job.now.setup (length memory.old) pen }
+    ensures { (result.done ≤ allowance) × Did job.now.setup pen memory.old memory.new result }
 {
-    let count = length_of(setup, plan, pen, allowance);
+    let count = length_of(job.setup, plan, pen, allowance);
     if count == 0 {
         return Ran { pen, done: 0 };
     }
-    let taken = plan.takes;
-    let lane = lane_of(setup, plan, pen);
-    if !draw_lane(
-        memory,
-        taken,
-        plan.map.format,
-        lane,
-        plan.front,
-        plan.rear,
-        count,
-    ) {
+    let lane = lane_of(job.setup, plan, pen);
+    if !draw_lane(memory, plan, lane, count) {
         return Ran { pen, done: 0 };
     }
     Ran {
-        pen: pass_stretch(setup.travel, count, pen),
+        pen: pass_stretch(job.setup.travel, count, pen),
         done: count,
     }
 }

@@ -1,41 +1,39 @@
 // A line or a code whose positions are alike until it leaves the map or the mask boundary.
 
-ghost use Rattle.std.specs.Prelude.{◌≡◌, ℕ, ◌+◌, ◌-◌, ◌*◌, ◌/◌, ◌%◌, ◌^◌, ◌<◌, ◌≤◌, true, false, ◌&&◌, length, pos, ◌==◌};
+ghost use Rattle.std.specs.Prelude.{◌≡◌, ℕ, ◌+◌, ◌-◌, ◌*◌, ◌/◌, ◌%◌, ◌^◌, ◌<◌, ◌≤◌, true, false, ◌&&◌, length, pos, ◌==◌, IfSome};
 ghost use Rattle.numbers.specs.Choose.{choose};
 ghost use Rattle.numbers.specs.Circles.{circle};
 ghost use Rattle.pixels.specs.Inner.{place_at};
 ghost use Rattle.rows.specs.Inner.{wholly, Alike, pixel_no, with_pixel_no};
 ghost use Rattle.moves.specs.Moves.{code_passed};
-ghost use Rattle.position.specs.declared.Blends.{Blends};
-ghost use Rattle.position.specs.Inner.{InkBlends, Safe};
+ghost use Rattle.position.specs.Inner.{Safe};
 ghost use Rattle.runs.specs.Inner as inner;
-ghost use Rattle.runs.specs.Inner.{is_stroke, goes_across, Sized, raised, error_in, line_stroke, code_stroke, done_in, Planned, BlendOf, Blended, Inside, Did};
+ghost use Rattle.runs.specs.Inner.{is_stroke, goes_across, Sized, raised, error_in, line_stroke, code_stroke, done_in, StrokePlanned, BlendOf, Inside, Did};
 
 use crate::Ran;
-use crate::plans::{Plan, goes_across, goes_back, least};
+use crate::jobs::Job;
+use crate::plans::{StrokePlan, goes_across, goes_back};
 use crate::stretches::{number, span};
 use moves::steps::code_step;
 use moves::ways::pass_code;
-use moves::{Pen, Step, Travel, Turn};
+use moves::{Pen, Travel, Turn};
 use numbers::circles::{destination, word};
 use parts::drawing::Drawing;
 use parts::reduced::term_is_reduced;
-use parts::shapes::{Point, Pointers, Spot};
+use parts::shapes::{Point, Pointers};
 use pixels::Map;
-use places::Setup;
 use places::places::{destination_of, on_map};
 use rows::traces::{dot, trace};
 use rows::{Trail, Whole};
 use rules::codes::{code_at, only_moves, steps_of};
 use std::num::wrapping_add_u32;
 
-// What is left of a line or code: whether it is drawn, its straight and its turned step, the error term and what it gains by each, as
-// a trail has them, and the steps before its last position.
+// What is left of a line or code that is drawn: its straight and its turned step, the error term and what it gains by each, as a trail
+// has them, and the steps before its last position.
 #[derive(Clone, Copy)]
 pub struct Stroke {
-    pub drawn: bool,
-    pub straight: Step,
-    pub turned: Step,
+    pub straight: Point<Turn>,
+    pub turned: Point<Turn>,
     pub e: u32,
     pub k1: u32,
     pub k2: u32,
@@ -68,60 +66,58 @@ fn lower(e: u32) -> i32
 fn steps_left(done: u16, last: u16) -> u32
     ensures { (result ≡ last - done) × (done + result < 2 ^ 16) }
 {
-    if done < last {
-        last as u32 - done as u32
-    } else {
-        0
-    }
+    last.saturating_sub(done) as u32
 }
 
-// The stroke of a line.
-fn line_stroke(travel: Travel, e: i32, done: u16) -> Stroke
-    ensures { (result ≡ line_stroke travel e done) × (done + result.steps < 2 ^ 16) }
+// The stroke of a line, and none where its error term is not reduced.
+fn line_stroke(travel: Travel, e: i32, done: u16) -> Option<Stroke>
+    ensures { (result ≡ line_stroke travel e done) × IfSome result (λ k. done + k.steps < 2 ^ 16) }
 {
+    if !term_is_reduced(e) {
+        return None;
+    }
     let course = travel.course;
-    let straight = course.straight;
-    let x = course.x;
-    let y = course.y;
-    let turned = Step { x, y };
-    Stroke {
-        drawn: term_is_reduced(e),
-        straight,
-        turned,
+    Some(Stroke {
+        straight: course.straight,
+        turned: Point {
+            x: course.x,
+            y: course.y,
+        },
         e: raise(e),
         k1: remainder(travel.k1),
         k2: remainder(travel.k2),
         steps: steps_left(done, travel.figure.dimensions.x),
-    }
+    })
 }
 
-// The stroke of a code, which never turns.
-fn code_stroke(code: u8, done: u16) -> Stroke
-    ensures { (result ≡ code_stroke code done) × (done + result.steps < 2 ^ 16) }
+// The stroke of a code, which never turns, and none where it only moves.
+fn code_stroke(code: u8, done: u16) -> Option<Stroke>
+    ensures { (result ≡ code_stroke code done) × IfSome result (λ k. done + k.steps < 2 ^ 16) }
 {
+    if only_moves(code) {
+        return None;
+    }
     let step = code_step(code);
-    Stroke {
-        drawn: !only_moves(code),
+    Some(Stroke {
         straight: step,
         turned: step,
         e: 0,
         k1: 0,
         k2: 0,
         steps: steps_left(done, steps_of(code)),
-    }
+    })
 }
 
-// The stroke of a drawing.
-fn stroke_of(travel: Travel, e: i32, drawing: Drawing) -> Stroke
-    ensures { (result ≡ inner.stroke_of travel e drawing) × (done_in drawing + result.steps < 2 ^ 16) }
+// The stroke of a drawing, of which only a line or a code has one.
+fn stroke_of(travel: Travel, e: i32, drawing: Drawing) -> Option<Stroke>
+    ensures { (result ≡ inner.stroke_of travel e drawing) × IfSome result (λ k. done_in drawing + k.steps < 2 ^ 16) }
 {
     match drawing {
-        Drawing::Nothing { .. } => code_stroke(0, 0),
-        Drawing::Line { rose: _, done } => line_stroke(travel, e, done),
+        Drawing::Line { done, .. } => line_stroke(travel, e, done),
         Drawing::Codes { count, code, done } => {
             code_stroke(code_at(travel.figure.steps, count, code), done)
         }
-        Drawing::Block { .. } => code_stroke(0, 0),
+        Drawing::Nothing { .. } | Drawing::Block { .. } => None,
     }
 }
 
@@ -137,29 +133,25 @@ fn stride(turn: Turn, last: u16) -> u32
 }
 
 // How far a step does.
-fn stride_of(width: u16, step: Step) -> u32
+fn stride_of(width: u16, step: Point<Turn>) -> u32
     ensures { result ≡ inner.stride_of width step }
 {
-    let x = step.x;
-    let y = step.y;
-    wrapping_add_u32(stride(x, 0), stride(y, width))
+    wrapping_add_u32(stride(step.x, 0), stride(step.y, width))
 }
 
 // The trail of a stroke from a pixel on.
-fn trail_of(map: Map, stroke: Stroke, x: u16, y: u16) -> Trail
-    ensures { (result ≡ inner.trail_from map stroke x y) × Sized map }
+fn trail_of(map: Map, stroke: Stroke, at: Point<u16>) -> Trail
+    ensures { (result ≡ inner.trail_from map stroke at.x at.y) × Sized map }
 {
-    let straight = stroke.straight;
-    let turned = stroke.turned;
     Trail {
         format: map.format,
         base: map.base,
-        at: number(map, x, y),
+        at: number(map, at.x, at.y),
         e: stroke.e,
         k1: stroke.k1,
         k2: stroke.k2,
-        straight: stride_of(map.width, straight),
-        turned: stride_of(map.width, turned),
+        straight: stride_of(map.width, stroke.straight),
+        turned: stride_of(map.width, stroke.turned),
     }
 }
 
@@ -168,7 +160,7 @@ fn limit(moves: bool, most: u32, span: u32) -> u32
     requires { 0 < span }
     ensures { (result ≤ most) × (moves ≡ true → result < span) }
 {
-    if moves { least(most, span - 1) } else { most }
+    if moves { most.min(span - 1) } else { most }
 }
 
 // How many steps are gone at most, where the straight ones stay within their spans.
@@ -179,10 +171,8 @@ fn count_of(stroke: Stroke, across: u32, down: u32, allowance: u32) -> u32
         × (goes_across stroke.straight.y ≡ true → result < down) }
 {
     let straight = stroke.straight;
-    let x = straight.x;
-    let y = straight.y;
-    let most = limit(goes_across(x), least(allowance, stroke.steps), across);
-    limit(goes_across(y), most, down)
+    let most = limit(goes_across(straight.x), allowance.min(stroke.steps), across);
+    limit(goes_across(straight.y), most, down)
 }
 
 // How many of them may turn, where only the turned ones move.
@@ -192,13 +182,8 @@ fn turns_of(stroke: Stroke, across: u32, down: u32) -> u32
         × (goes_across stroke.straight.y ≡ false → result < down) }
 {
     let straight = stroke.straight;
-    let x = straight.x;
-    let y = straight.y;
-    limit(
-        !goes_across(y),
-        limit(!goes_across(x), 4294967295, across),
-        down,
-    )
+    let most = limit(!goes_across(straight.x), 4294967295, across);
+    limit(!goes_across(straight.y), most, down)
 }
 
 // A line so many steps further, or after its last position.
@@ -238,14 +223,13 @@ fn drawing_on(travel: Travel, drawing: Drawing, done: u32, ends: bool) -> Drawin
     ensures { is_stroke drawing ≡ true → result ≡ choose ends (inner.drawing_ended travel drawing) (inner.drawing_at done drawing) }
 {
     match drawing {
-        Drawing::Nothing { .. } => Drawing::Nothing { stopped: false },
         Drawing::Line { rose, done: before } => line_on(rose, before, done, ends),
         Drawing::Codes {
             count,
             code,
             done: before,
         } => code_on(travel.figure.steps, count, code, before, done, ends),
-        Drawing::Block { .. } => Drawing::Nothing { stopped: false },
+        Drawing::Nothing { .. } | Drawing::Block { .. } => Drawing::Nothing { stopped: false },
     }
 }
 
@@ -254,12 +238,10 @@ fn error_on(pen: Pen, e: u32) -> i32
     requires { e < 16384 }
     ensures { result ≡ inner.error_of pen.drawing e pen.e }
 {
-    let drawing = pen.drawing;
-    match drawing {
-        Drawing::Nothing { .. } => pen.e,
-        Drawing::Line { .. } => lower(e),
-        Drawing::Codes { .. } => pen.e,
-        Drawing::Block { .. } => pen.e,
+    if matches!(pen.drawing, Drawing::Line { .. }) {
+        lower(e)
+    } else {
+        pen.e
     }
 }
 
@@ -267,26 +249,15 @@ fn error_on(pen: Pen, e: u32) -> i32
 fn pen_at(width: u16, at: u32, e: i32, drawing: Drawing, pen: Pen) -> Pen
     ensures { result ≡ inner.pen_at (circle 2048 8192 (pos (at % (width + 1)))) (circle 2048 8192 (pos (at / (width + 1)))) e drawing pen }
 {
-    let source = Point {
-        x: pen.pointers.source.x,
-        y: pen.pointers.source.y,
-    };
-    let pattern = Point {
-        x: pen.pointers.pattern.x,
-        y: pen.pointers.pattern.y,
-    };
     let row = width as u32 + 1;
-    let destination = Spot {
-        x: destination(at % row),
-        y: destination(at / row),
-    };
-    let pointers = Pointers {
-        source,
-        pattern,
-        destination,
-    };
     Pen {
-        pointers,
+        pointers: Pointers {
+            destination: Point {
+                x: destination(at % row),
+                y: destination(at / row),
+            },
+            ..pen.pointers
+        },
         e,
         drawing,
     }
@@ -314,36 +285,33 @@ fn end(memory: &mut [u8], ends: bool, trail: Trail, whole: Whole, n: u32)
 
 // The next positions of a stroke from a pixel that is inside on, within these spans.
 fn go(
-    setup: Setup,
+    job: &Job,
     whole: Whole,
     memory: &mut [u8],
     pen: Pen,
     stroke: Stroke,
-    x: u16,
-    y: u16,
+    at: Point<u16>,
     across: u32,
     down: u32,
     allowance: u32,
 ) -> Ran
-    requires { Inside setup pen stroke x y across down × Safe setup (length memory.old) pen }
-    ensures { (result.done ≤ allowance)
-        × ((blends : Blends) → InkBlends setup.brush blends
-        → BlendOf setup blends.foreground whole
-        → Did setup pen memory.old memory.new result) }
+    requires { Inside job.now.setup pen stroke at.x at.y across down
+        × BlendOf job.now.setup job.now.blends.foreground whole
+        × Safe job.now.setup (length memory.old) pen }
+    ensures { (result.done ≤ allowance) × Did job.now.setup pen memory.old memory.new result }
 {
-    let trail = trail_of(setup.brush.destination, stroke, x, y);
+    let trail = trail_of(job.setup.brush.destination, stroke, at);
     let count = count_of(stroke, across, down, allowance);
     let turns = turns_of(stroke, across, down);
     let gone = trace(memory, trail, whole, count, turns);
     let ends = (gone.done == stroke.steps) & (gone.done < allowance);
     end(memory, ends, trail, whole, gone.at);
-    let drawing = pen.drawing;
     Ran {
         pen: pen_at(
-            setup.brush.destination.width,
+            job.setup.brush.destination.width,
             gone.at,
             error_on(pen, gone.e),
-            drawing_on(setup.travel, drawing, gone.done, ends),
+            drawing_on(job.setup.travel, pen.drawing, gone.done, ends),
             pen,
         ),
         done: done_by(ends, gone.done),
@@ -352,32 +320,30 @@ fn go(
 
 // The next positions of a line or code, as far as they are inside, and at most as many as are allowed; none where the first is not.
 pub(crate) fn draw_stroke(
-    setup: Setup,
-    plan: Plan,
+    job: &Job,
+    plan: &StrokePlan,
     memory: &mut [u8],
     pen: Pen,
     allowance: u32,
 ) -> Ran
-    requires { Planned setup plan × (plan.strokes ≡ true) × Safe setup (length memory.old) pen }
-    ensures { (result.done ≤ allowance)
-        × ((blends : Blends) → InkBlends setup.brush blends → Blended setup blends plan
-        → Did setup pen memory.old memory.new result) }
+    requires { StrokePlanned job.now.setup plan.now
+        × BlendOf job.now.setup job.now.blends.foreground plan.now.whole
+        × Safe job.now.setup (length memory.old) pen }
+    ensures { (result.done ≤ allowance) × Did job.now.setup pen memory.old memory.new result }
 {
-    let drawing = pen.drawing;
-    let stroke = stroke_of(setup.travel, pen.e, drawing);
-    if !stroke.drawn | !on_map(setup.brush, pen) {
+    let Some(stroke) = stroke_of(job.setup.travel, pen.e, pen.drawing) else {
+        return Ran { pen, done: 0 };
+    };
+    if !on_map(job.setup.brush, pen) {
         return Ran { pen, done: 0 };
     }
-    let at = destination_of(setup.brush, pen);
-    let turned = stroke.turned;
-    let x = turned.x;
-    let y = turned.y;
-    let across = span(goes_back(x), at.x, plan.left, plan.right);
-    let down = span(goes_back(y), at.y, plan.top, plan.bottom);
+    let at = destination_of(job.setup.brush, pen);
+    let across = span(goes_back(stroke.turned.x), at.x, plan.left, plan.right);
+    let down = span(goes_back(stroke.turned.y), at.y, plan.top, plan.bottom);
     if (across == 0) | (down == 0) {
         return Ran { pen, done: 0 };
     }
     go(
-        setup, plan.front, memory, pen, stroke, at.x, at.y, across, down, allowance,
+        job, plan.whole, memory, pen, stroke, at, across, down, allowance,
     )
 }

@@ -2,67 +2,54 @@
 
 ghost use Rattle.std.specs.Prelude.{◌≡◌, ◌<◌, ◌≤◌, true, length};
 ghost use Rattle.parts.specs.Drawings.{unfinished};
-ghost use Rattle.position.specs.declared.Blends.{Blends};
-ghost use Rattle.position.specs.Inner.{InkBlends, Safe};
-ghost use Rattle.runs.specs.Inner.{Planned, Blended, Did};
+ghost use Rattle.position.specs.Inner.{Safe};
+ghost use Rattle.runs.specs.Inner.{Did};
 
 use crate::Ran;
-use crate::plans::{Plan, least};
+use crate::jobs::Job;
+use crate::plans::Plan;
 use crate::singly::run_singly;
 use crate::stretches::draw_row;
 use crate::strokes::draw_stroke;
 use moves::Pen;
-use places::Setup;
-use position::Blends;
 
-// The next positions that are alike, of a row or of a stroke, and none where there are none.
-fn draw_alike(setup: Setup, plan: Plan, memory: &mut [u8], pen: Pen, allowance: u32) -> Ran
-    requires { Planned setup plan × Safe setup (length memory.old) pen }
-    ensures { (result.done ≤ allowance)
-        × ((blends : Blends) → InkBlends setup.brush blends → Blended setup blends plan
-        → Did setup pen memory.old memory.new result) }
+// The next positions that are alike, of a row or of a stroke, and none where there are none; none is a count like any other, which a stroke
+// answers too.
+fn draw_alike(job: &Job, memory: &mut [u8], pen: Pen, allowance: u32) -> Ran
+    requires { Safe job.now.setup (length memory.old) pen }
+    ensures { (result.done ≤ allowance) × Did job.now.setup pen memory.old memory.new result }
 {
-    if plan.strokes {
-        draw_stroke(setup, plan, memory, pen, allowance)
-    } else {
-        draw_row(setup, plan, memory, pen, allowance)
+    match &job.plan {
+        Plan::Rows(rows) => draw_row(job, rows, memory, pen, allowance),
+        Plan::Strokes(strokes) => draw_stroke(job, strokes, memory, pen, allowance),
+        Plan::Singly => Ran { pen, done: 0 },
     }
 }
 
 // How many positions are done one by one before others are looked for that are alike: a few, and all where none are.
-fn alone(plan: Plan, allowance: u32) -> u32
+fn alone(job: &Job, allowance: u32) -> u32
     requires { 0 < allowance }
     ensures { (0 < result) × (result ≤ allowance) }
 {
-    if plan.rows | plan.strokes {
-        least(allowance, 16)
-    } else {
+    if matches!(job.plan, Plan::Singly) {
         allowance
+    } else {
+        allowance.min(16)
     }
 }
 
 // The next positions, at most as many as are allowed: some that are alike, or some one by one.
-pub(crate) fn turn(
-    setup: Setup,
-    blends: Blends,
-    plan: Plan,
-    memory: &mut [u8],
-    pen: Pen,
-    allowance: u32,
-) -> Ran
-    requires { Planned setup plan
-        × Blended setup blends plan
-        × InkBlends setup.brush blends
-        × Safe setup (length memory.old) pen
+pub(crate) fn turn(job: &Job, memory: &mut [u8], pen: Pen, allowance: u32) -> Ran
+    requires { Safe job.now.setup (length memory.old) pen
         × (unfinished pen.drawing ≡ true)
         × (0 < allowance) }
     ensures { (0 < result.done)
         × (result.done ≤ allowance)
-        × Did setup pen memory.old memory.new result }
+        × Did job.now.setup pen memory.old memory.new result }
 {
-    let ran = draw_alike(setup, plan, memory, pen, allowance);
+    let ran = draw_alike(job, memory, pen, allowance);
     if 0 < ran.done {
         return ran;
     }
-    run_singly(setup, blends, pen, memory, alone(plan, allowance))
+    run_singly(job, pen, memory, alone(job, allowance))
 }

@@ -59,21 +59,21 @@ module _ (b : BoardStand) (s : Stand) (h : Shows b s) where
   run_value m n a small same =
       (image_run_answer b.image m a small h.image.accepted).1 ∙ (λ i. (run_answer (h.image.record_same i) (same i) a).done)
 
-  run_number_lem : (m n : List ℕ) (a : ℕ) → a < 2 ^ 32 → m ≡ n → eqb (refusal_in (run_number b.image m a)) 0 ≡ is_accepted (run_answer s.coprocessor n a).refusal
+  run_number_lem : (m n : List ℕ) (a : ℕ) → a < 2 ^ 32 → m ≡ n → eqb (refusal_in (run_number b.image m a)) 0 ≡ is_accepted (run_answer s.coprocessor n a).outcome
   run_number_lem m n a small same =
       ap (λ (k : ℕ). eqb k 0) (image_run_answer b.image m a small h.image.accepted).0
-      ∙ number_accepted (run_answer (loaded b.image) m a).refusal
-      ∙ (λ i. is_accepted (run_answer (h.image.record_same i) (same i) a).refusal)
+      ∙ number_accepted (run_answer (loaded b.image) m a).outcome
+      ∙ (λ i. is_accepted (run_answer (h.image.record_same i) (same i) a).outcome)
 
   write_image_lem : (w : Write) → LoadsTo (write_image b.image w) (write_answer w s.coprocessor).coprocessor
   write_image_lem w =
       another (image_written b.image w h.image.bytes h.image.accepted) (λ i. (write_answer w (h.image.record_same i)).coprocessor)
 
-  write_number_lem : (w : Write) → eqb (write_number b.image w) 0 ≡ is_accepted (write_answer w s.coprocessor).refusal
+  write_number_lem : (w : Write) → eqb (write_number b.image w) 0 ≡ is_accepted (write_answer w s.coprocessor).outcome
   unfolding write_number
   write_number_lem w =
       rw h.image.accepted
-      (number_accepted (write_answer w (loaded b.image)).refusal ∙ (λ i. is_accepted (write_answer w (h.image.record_same i)).refusal))
+      (number_accepted (write_answer w (loaded b.image)).outcome ∙ (λ i. is_accepted (write_answer w (h.image.record_same i)).outcome))
 
   -- a call that spares the drawing leaves what its event leaves
   shows_called : (c : Call) → BoardSpares c b → Shows (called c b) (happened (event_of c) s)

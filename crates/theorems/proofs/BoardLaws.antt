@@ -1,5 +1,6 @@
 -- The calls on a state image keep what the calls on a record promise: an image that loads is that of the record that it loads to, and every call
 -- leaves a valid record and saves it over the image, so the new image loads to that record.
+use Rattle.std.proofs.Common.{Result}
 use mathlib.Core.Path.{◌≡◌, refl, sym, ap, ◌∙◌}
 use mathlib.Core.Bool.{Bool, true, false}
 use mathlib.Core.List.{List, [], ◌∷◌, ◌++◌}
@@ -109,21 +110,21 @@ image_written image w bytes e =
 -- ---- a run
 
 -- a refusal and a value of 32 bits are the two halves of their answer
-answer_halves : (r : Refusal) (v : ℕ) → v < 2 ^ 32 → (refusal_in (call_answer r v) ≡ refusal_number r) × (value_in (call_answer r v) ≡ v)
+answer_halves : (r : Result Unit Refusal) (v : ℕ) → v < 2 ^ 32 → (refusal_in (call_answer r v) ≡ refusal_number r) × (value_in (call_answer r v) ≡ v)
 unfolding call_answer refusal_in value_in
 answer_halves r v small = (digits_div (refusal_number r) small, digits_mod (refusal_number r) small)
 
 -- what a run answers, for an image that loads
 pub image_run_answer : (image memory : List ℕ) (n : ℕ) → n < 2 ^ 32 → loads image ≡ true
-    → (refusal_in (run_number image memory n) ≡ refusal_number (run_answer (loaded image) memory n).refusal)
+    → (refusal_in (run_number image memory n) ≡ refusal_number (run_answer (loaded image) memory n).outcome)
     × (value_in (run_number image memory n) ≡ (run_answer (loaded image) memory n).done)
 unfolding run_number
 image_run_answer image memory n small e =
     let few = done_le (loaded image) memory n in
-    rw e (answer_halves (run_answer (loaded image) memory n).refusal (run_answer (loaded image) memory n).done (omega (arith, few)))
+    rw e (answer_halves (run_answer (loaded image) memory n).outcome (run_answer (loaded image) memory n).done (omega (arith, few)))
 
 -- a number above 0 is a refusal
-refused_number : (r : Refusal) → (refusal_number r ≡ 0 → ⊥) → is_accepted r ≡ false
+refused_number : (r : Result Unit Refusal) → (refusal_number r ≡ 0 → ⊥) → is_accepted r ≡ false
 refused_number r some = sym (number_accepted r) ∙ ne_eqb (refusal_number r) 0 some
 
 pub memory_ran : (image memory : List ℕ) (n : ℕ) → loads image ≡ true → run_bytes image memory n ≡ run_memory (loaded image) memory n
@@ -139,7 +140,7 @@ image_run_refused image memory n bytes small refused = by (loads image) refl
     by : (t : Bool) → loads image ≡ t → (run_image image memory n ≡ image) × (run_bytes image memory n ≡ memory) × (value_in (run_number image memory n) ≡ 0)
     by true e =
         let answer = image_run_answer image memory n small e in
-        let none = run_refused (loaded image) memory n (refused_number (run_answer (loaded image) memory n).refusal (λ zero. refused (answer.0 ∙ zero))) in
+        let none = run_refused (loaded image) memory n (refused_number (run_answer (loaded image) memory n).outcome (λ zero. refused (answer.0 ∙ zero))) in
         (stays image bytes _ (λ loads. none.2), memory_ran image memory n e ∙ none.0, answer.1 ∙ none.1)
     by false e = (rw e, rw e, rw e)
 

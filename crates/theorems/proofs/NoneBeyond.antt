@@ -89,7 +89,7 @@ start_none_beyond w c memory events held accepted =
 
 -- 02, 108: the same after an accepted load
 pub load_none_beyond : (c : Coprocessor) (image memory : List ℕ) (events : List Event) → ((i : ℕ) → get_or image i 0 < 256)
-    → is_accepted (load_answer c image).refusal ≡ true → length memory ≡ (load_answer c image).coprocessor.size
+    → is_accepted (load_answer c image).outcome ≡ true → length memory ≡ (load_answer c image).coprocessor.size
     → Undisturbed events (standing (load_answer c image).coprocessor memory)
     → let s : Stand = lived events (standing (load_answer c image).coprocessor memory) in
     NoneBeyond s.coprocessor s.memory

@@ -5,6 +5,7 @@ use base.Logic.{SProp, ent, sep, via, id⊢, fst∗, snd∗}
 use prog.Memory.{Memory}
 use prog.Routine.{Routine}
 use types.Logic.{Logic}
+use denote.RattleType.{RattleType}
 use contract.Monad.{Fun, fact, fact_mono, fact_use}
 use Rattle.coprocessor.specs.contracts.Coprocessor.fresh as fresh
 use Rattle.coprocessor.specs.contracts.Coprocessor.write as write
@@ -28,6 +29,8 @@ use Rattle.console.specs.contracts.answers.obey as obey
 use Rattle.console.specs.contracts.commands.command_of as command-of
 use Rattle.console.specs.contracts.gather.gather as gather
 use Rattle.console.specs.contracts.gather.command_in as command-in
+use Rattle.console.specs.contracts.gather.Line.gather as line-gather
+use Rattle.console.specs.contracts.gather.Line.command as line-command
 use Rattle.console.specs.contracts.texts.put as put
 use Rattle.console.specs.contracts.texts.answer_text as answer-text
 use Rattle.console.specs.contracts.texts.memory_text as memory-text
@@ -111,6 +114,15 @@ module _ {M : Type 1} {𝓤 : Ura M} (𝓛 : Logic 𝓤) (mem : Memory → SProp
 
   pub command_in_one : One 𝓤 command-in.ended (command-in.clauses 𝓛 mem runs)
   command_in_one κs a g r s m n = either 𝓤 (said 𝓤) (said 𝓤) (λ p q. (p ∙ sym q, refl))
+
+  -- for a line of any size
+  pub line_gather_one : (N : RattleType) → One 𝓤 (line-gather.ended N) (line-gather.clauses N 𝓛 mem runs)
+  line_gather_one N κs a g r s m n =
+      either 𝓤 (two 𝓤) (two 𝓤)
+      (λ p q. (refl, λ i. (record { bytes = (p.1 ∙ sym q.1) i; count = (p.0 ∙ sym q.0) i }, (tt, tt))))
+
+  pub line_command_one : (N : RattleType) → One 𝓤 (line-command.ended N) (line-command.clauses N 𝓛 mem runs)
+  line_command_one N κs a g r s m n = either 𝓤 (said 𝓤) (said 𝓤) (λ p q. (p ∙ sym q, refl))
 
   pub put_one : One 𝓤 put.ended (put.clauses 𝓛 mem runs)
   put_one κs a g r s m n = either 𝓤 (said 𝓤) (said 𝓤) (λ p q. (p.0 ∙ sym q.0, λ i. ((p.1 ∙ sym q.1) i, (tt, (tt, tt)))))

@@ -33,7 +33,7 @@ accepts c memory same v = simp (eq-eqb (length memory) c.size same, v)
 module _ (c : Coprocessor) (memory : List ℕ) (accepted : is_accepted (run_refusal c memory) ≡ true) where
   -- what a run of n positions answers, from what the run was
   abbrev answered : Run → Drawn
-  answered t = record { refusal = run_refusal c memory; done = t.done; coprocessor = with_pen c t.pen }
+  answered t = record { outcome = run_refusal c memory; done = t.done; coprocessor = with_pen c t.pen }
 
   pub run_accepted : (n : ℕ) → (run_memory c memory n ≡ (ran_of c memory n).memory) × (run_answer c memory n ≡ answered (ran_of c memory n))
   unfolding run_memory run_answer
@@ -101,7 +101,7 @@ pub record Continued (c : Coprocessor) (memory : List ℕ) (a b : ℕ) (d : Draw
   pub memory_same : run_memory d.coprocessor m b ≡ run_memory c memory (a + b)
   pub record_same : (run_answer d.coprocessor m b).coprocessor ≡ (run_answer c memory (a + b)).coprocessor
   pub done_sum : d.done + (run_answer d.coprocessor m b).done ≡ (run_answer c memory (a + b)).done
-  pub accepted : is_accepted (run_answer d.coprocessor m b).refusal ≡ true
+  pub accepted : is_accepted (run_answer d.coprocessor m b).outcome ≡ true
 
 -- the run that goes on, in the first one's terms
 ran_on : (c : Coprocessor) (pen : Pen) (m : List ℕ) (b : ℕ) → ran_of (with_pen c pen) m b ≡ after (setup_of c) b (begun pen m)

@@ -48,14 +48,14 @@ happened (run allowance) s =
       coprocessor = (run_answer s.coprocessor s.memory allowance).coprocessor;
       memory = run_memory s.coprocessor s.memory allowance;
       done = s.done + (run_answer s.coprocessor s.memory allowance).done;
-      accepted = s.accepted && is_accepted (run_answer s.coprocessor s.memory allowance).refusal;
+      accepted = s.accepted && is_accepted (run_answer s.coprocessor s.memory allowance).outcome;
     }
 happened (moved_to other buffer long) s =
     record {
       coprocessor = (load_answer other (saved s.coprocessor buffer)).coprocessor;
       memory = s.memory;
       done = s.done;
-      accepted = s.accepted && (is_accepted (save_refusal s.coprocessor buffer) && is_accepted (load_answer other (saved s.coprocessor buffer)).refusal);
+      accepted = s.accepted && (is_accepted (save_refusal s.coprocessor buffer) && is_accepted (load_answer other (saved s.coprocessor buffer)).outcome);
     }
 happened (read offset length) s = s
 happened (save buffer) s = s
@@ -84,7 +84,7 @@ Spares (run allowance) s = Unit {0}
 Spares (moved_to other buffer long) s = Unit {0}
 Spares (read offset length) s = Unit {0}
 Spares (save buffer) s = Unit {0}
-Spares (write w) s = is_accepted (write_answer w s.coprocessor).refusal ≡ false
+Spares (write w) s = is_accepted (write_answer w s.coprocessor).outcome ≡ false
 Spares (lent other allowance) s = (run_answer s.coprocessor other allowance).done ≡ 0
 Spares (load bytes) s = (load_answer s.coprocessor bytes).coprocessor ≡ s.coprocessor
 Spares (others other allowance) s = run_memory other s.memory allowance ≡ s.memory

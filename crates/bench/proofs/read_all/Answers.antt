@@ -1,42 +1,54 @@
--- `read_all` reads while it reads on; the measure is the reads that are left.
-use mathlib.Core.Path.{◌≡◌, refl, ap, sym, ◌∙◌}
-use mathlib.Core.Bool.{Bool, true}
-use Prim.Native.Nat.{ℕ, ◌<◌}
-use native.Mathlib.Omega.{arith}
-use lib.Dec.{ltb}
-use borrow.Author.Tests.{ltb-true}
-use Rattle.numbers.proofs.Choices.{and_right}
-use Rattle.bench.specs.Played.{reads_on, Progress, progress_of, turned, none, again}
+-- `read_all` reads while there may be more, and while reads are left.
+use Rattle.std.proofs.Common.{rules, ◌≡◌, ℕ, ◌-◌, ◌<◌, true, refl, ◌∙◌, ◌+◌, arith, lt-ltb, le-ltb}
+use Rattle.bench.specs.Inner.{session_of}
+use Rattle.bench.specs.Played.{reads_on, progress_of, begun, Reads, none, again}
 use Rattle.bench.proofs.read_all.Goals as goal
+use Rattle.bench.proofs.read_all.Goals.{After-turn}
 
-pub loop-piece-init : goal.loop-piece-init
-loop-piece-init g c = (none, c.requires, refl)
-
--- where it reads on, a read is left
-some_left : (more : Bool) (left : ℕ) → reads_on more left ≡ true → 0 < left
+-- where a read is left
+some_left : (left : ℕ) → 0 < left → reads_on true left ≡ true
 unfolding reads_on
-some_left more left h = ltb-true 0 left (and_right more (ltb 0 left) h)
+some_left left some = lt-ltb 0 left some
 
-pub turn-state-requires : goal.turn-state-requires
-turn-state-requires g c =
-    let test = c in let state = test.loop-piece.invariant in
-    (state.1, some_left _ _ (sym c.reads_on.ensures ∙ c.loop-piece-test.true), omega (arith, state.2))
-
-pub loop-piece-smaller : goal.loop-piece-smaller
-unfolding progress_of turned
-loop-piece-smaller g c =
-    let fell = ap (λ (p : Progress). p.left) c.turn-state.ensures.0.same in
-    omega (arith, fell, some_left _ _ (sym c.reads_on.ensures ∙ c.loop-piece-test.true))
-
-pub loop-piece-preserved : goal.loop-piece-preserved
+-- a turn is one read more
+one_more : (g : _) (c : After-turn g) → let left = 18446744073709551615 - c.loop.counter in
+    Reads (begun (session_of c.args.bench.now)) (progress_of c.turn.new.bench c.turn.result (left - 1))
 unfolding progress_of
-loop-piece-preserved g c =
-    let t = c.turn-state.ensures in
-    let test = c in let state = test.loop-piece.invariant in
-    (rw t.0.same (again state.0 (sym c.reads_on.ensures ∙ c.loop-piece-test.true) _), t.1, c.turn-state.auto.piece ∙ state.2)
+one_more g c =
+    let left = 18446744073709551615 - c.loop.counter in let t = c.turn.ensures.turned left in
+    rw t.same (again c.loop.invariant.0 (some_left left (omega (arith, c.loop-test.true))) _)
+
+pub loop-init : goal.loop-init
+unfolding begun progress_of
+loop-init g c = (none, c.requires, refl)
+
+pub loop-preserved : goal.loop-preserved
+loop-preserved g c =
+    let less : 18446744073709551615 - (c.loop.counter + 1) ≡ 18446744073709551615 - c.loop.counter - 1 = omega arith in
+    let more : c.turn.result ≡ true = search rules in
+    let reads = one_more g (goal.at.loop-preserved g c).After-turn in
+    (rw less (rw more at reads), c.turn.ensures.none, c.turn.auto.piece ∙ c.loop.invariant.2)
+
+pub returns-then-not-turn : goal.returns-then-not-turn
+unfolding progress_of reads_on
+returns-then-not-turn g c = record {
+  read = record {
+    last = progress_of c.turn.new.bench c.turn.result (18446744073709551615 - c.loop.counter - 1);
+    reads = one_more g (goal.at.returns-then-not-turn g c).After-turn;
+    ended = rw c.if-not-turn.true;
+    same = refl;
+  };
+  none = c.turn.ensures.none;
+}
 
 pub returns : goal.returns
-returns g c = (c.loop-piece.invariant.0, sym c.reads_on.ensures ∙ c.loop-piece-test.false, c.loop-piece.invariant.1)
-
-pub slice_bounds-turn-end : goal.slice_bounds-turn-end
-slice_bounds-turn-end g c = sym c.loop-piece.invariant.2
+unfolding progress_of reads_on
+returns g c = record {
+  read = record {
+    last = progress_of c.loop.bench true (18446744073709551615 - c.loop.counter);
+    reads = c.loop.invariant.0;
+    ended = le-ltb 0 _ (omega (arith, c.loop-test.false));
+    same = refl;
+  };
+  none = c.loop.invariant.1;
+}

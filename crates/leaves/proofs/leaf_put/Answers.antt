@@ -4,5 +4,5 @@ use native.Mathlib.Omega.{arith}
 use Rattle.pixels.proofs.Pixels.{put_beyond}
 use Rattle.leaves.proofs.leaf_put.Goals as goal
 
-pub returns-else-at-memory : goal.returns-else-at-memory
-returns-else-at-memory c = sym (put_beyond _ _ _ _ _ (omega (arith, c.place-at.ensures)))
+pub returns-else-place-memory : goal.returns-else-place-memory
+returns-else-place-memory c = sym (put_beyond _ _ _ _ _ (omega (arith, c.place.ensures)))

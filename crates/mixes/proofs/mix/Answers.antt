@@ -14,14 +14,6 @@ low c = ap (bit_and c.args.destination) c.requires.ones ∙ and_mask c.args.dest
 low-lt : (c : Start) → let a = c.args in bit_and a.destination a.depth.ones < 2 ^ a.depth.bits
 low-lt c = rw c.requires.ones (mask_lt c.args.destination _)
 
-pub returns-then-code-lt16 : goal.returns-then-code-lt16
-returns-then-code-lt16 c =
-    let test = c in
-    c.blend_pixels.ensures ∙ c.blend_of.ensures test.requires test.if-code-lt16.true _ _
-
-pub arithmetic-result-requires : goal.arithmetic-result-requires
-arithmetic-result-requires c = (c.requires, c.if-code-lt16.false)
-
 pub merge-requires : goal.merge-requires
 merge-requires c =
     let start = c in

@@ -3,9 +3,6 @@ use Rattle.pixels.specs.Pixels.{byte_at}
 use Rattle.pixels.specs.Inner.{cell_at}
 use Rattle.pixels.proofs.find.Goals as goal
 
-pub bounds-memory-at : goal.bounds-memory-at
-bounds-memory-at c = rw c.place-at.ensures c.requires
-
 pub returns : goal.returns
 unfolding byte_at cell_at
 returns c = rw (c.bits_of.ensures, c.shift.ensures, c.place-at.ensures)

@@ -5,8 +5,8 @@ use Rattle.pixels.proofs.Pixels.{cell_in_byte, cell_in_memory}
 use Rattle.pixels.proofs.put.Goals as goal
 
 pub store-requires : goal.store-requires
-store-requires c = rw c.find-cell.ensures (cell_in_byte _ _ _ _, cell_in_memory _ _ _ _ c.requires)
+store-requires c = rw c.find.ensures (cell_in_byte _ _ _ _, cell_in_memory _ _ _ _ c.requires)
 
 pub returns : goal.returns
 unfolding cell_at with_pixel
-returns c = rw (c.store.ensures, c.find-cell.ensures)
+returns c = rw (c.store.ensures, c.find.ensures)

@@ -13,6 +13,6 @@ unfolding bits_of
 returns c =
     let a = c.args in
     and_mask _ 3
-    ∙ mod-mod-pow (bit_xor a.n c.mirror-turned.result * 2 ^ (a.format % 4)) 29 3
-    ∙ ap (λ (t : ℕ). bit_xor a.n t * 2 ^ (a.format % 4) % 8) c.mirror-turned.ensures
+    ∙ mod-mod-pow (bit_xor a.n c.mirror.result * 2 ^ (a.format % 4)) 29 3
+    ∙ ap (λ (t : ℕ). bit_xor a.n t * 2 ^ (a.format % 4) % 8) c.mirror.ensures
     ∙ number_turned a.format a.n (omega arith)

@@ -1,6 +1,7 @@
 -- `run` is that many positions: each turn adds those that it did, and a drawing in hand stays safe.
 use Rattle.std.proofs.Common.{◌≡◌, ◌+◌, ◌<◌, ◌≤◌, true, ◌&&◌, ltb, length, sym, refl, ap, ◌∙◌, subst, zero-le, arith, ltb-true}
 use Rattle.numbers.proofs.Choices.{and_left, and_right}
+use Rattle.parts.specs.Drawings.{unfinished}
 use Rattle.moves.specs.declared.Pen.{Pen}
 use Rattle.position.specs.Inner.{Safe}
 use Rattle.runs.specs.Runs.{Run, begun, after}
@@ -10,26 +11,24 @@ use Rattle.runs.proofs.run.Goals as goal
 use Rattle.runs.proofs.run.Goals.{After-turn-turned, In-loop-done}
 
 -- what the loop's test says of a turn
-test : (c : In-loop-done) → let a = c.args in
-    (c.loop-done.done < a.allowance) × (c.loop-done.going ≡ true)
+test : (c : In-loop-done) → (c.loop-done.done < c.args.allowance) × (unfinished c.loop-done.pen.drawing ≡ true)
 test c =
-    let less = ltb c.loop-done.done c.args.allowance in
-    (ltb-true _ _ (and_left less c.loop-done.going c.loop-done-test.true), and_right less c.loop-done.going c.loop-done-test.true)
+    let less = ltb c.loop-done.done c.args.allowance in (
+      ltb-true _ _ (and_left less c.is_unfinished.result c.loop-done-test.true),
+      sym c.is_unfinished.ensures ∙ and_right less c.is_unfinished.result c.loop-done-test.true,
+    )
 
 pub loop-done-init : goal.loop-done-init
 unfolding after begun
-loop-done-init c = (zero-le, refl, refl, c.is_unfinished-going.ensures, λ going. c.requires (sym c.is_unfinished-going.ensures ∙ going))
+loop-done-init c = (zero-le, refl, refl, c.requires)
 
 pub turn-turned-requires : goal.turn-turned-requires
 turn-turned-requires c =
     let at = c.loop-done in
     let on = test (goal.at.turn-turned-requires c).In-loop-done in
-    let safe = at.invariant.4 on.1 in (
-      c.plan_of-plan.ensures.0,
-      c.plan_of-plan.ensures.1,
-      c.blends_of-blends.ensures safe.depth,
+    let safe = at.invariant.3 on.1 in (
       rw at.invariant.1 safe,
-      sym at.invariant.3 ∙ on.1,
+      on.1,
       omega (arith, on.0),
     )
 
@@ -50,26 +49,19 @@ loop-done-preserved c =
       (few (goal.at.loop-done-preserved c).After-turn-turned).1,
       turned.auto.memory ∙ at.invariant.1,
       after_more s at.done turned.result.done _ _ _ _ _ at.invariant.2 more,
-      c.is_unfinished-going-in-loop-done.ensures,
       λ going.
-          subst (λ (q : Pen). Safe s size q) (ap (λ (r : Run). r.pen) more) (safe_after s size turned.result.done (begun at.pen at.memory) (at.invariant.4 on.1)),
+          subst (λ (q : Pen). Safe s size q) (ap (λ (r : Run). r.pen) more) (safe_after s size turned.result.done (begun at.pen at.memory) (at.invariant.3 on.1)),
     )
 
 pub returns : goal.returns
 returns c =
     let at = c.loop-done in
     let u : Run = record { pen = at.pen; memory = at.memory; done = at.done } in
-    let stop = (λ i. ltb at.done c.args.allowance && sym at.invariant.3 i) ∙ c.loop-done-test.false in
+    let stop = (λ i. ltb at.done c.args.allowance && sym c.is_unfinished.ensures i) ∙ c.loop-done-test.false in
     parts _ u (after_stop _ _ _ _ u at.invariant.2 at.invariant.0 stop)
 
 pub overflow_sub-allowance : goal.overflow_sub-allowance
 overflow_sub-allowance c = omega (arith, (test (goal.at.overflow_sub-allowance c).In-loop-done).0)
 
-pub overflow_add-done : goal.overflow_add-done
-overflow_add-done c = omega (arith, c.ranges.allowance, c.loop-done.invariant.0, c.turn-turned.ensures.1)
-
 pub loop-done-smaller : goal.loop-done-smaller
 loop-done-smaller c = omega (arith, few (goal.at.loop-done-smaller c).After-turn-turned)
-
-pub shape_of-memory : goal.shape_of-memory
-shape_of-memory c = c.loop-done.invariant.1

@@ -9,9 +9,8 @@ abbrev pub invariant-loop-done : goal.invariant-loop-done
 invariant-loop-done l =
     (l.done ≤ l.allowance)
     × (length l.memory ≡ length l.initial.memory)
-    × (after l.setup l.done (begun l.initial.pen l.initial.memory) ≡ record { pen = l.pen; memory = l.memory; done = l.done })
-    × (l.going ≡ unfinished l.pen.drawing)
-    × (l.going ≡ true → Safe l.setup (length l.initial.memory) l.pen)
+    × (after l.fn.setup l.done (begun l.initial.pen l.initial.memory) ≡ record { pen = l.pen; memory = l.memory; done = l.done })
+    × (unfinished l.pen.drawing ≡ true → Safe l.fn.setup (length l.initial.memory) l.pen)
 
 abbrev pub decreases-loop-done : goal.decreases-loop-done
 decreases-loop-done l = l.allowance - l.done

@@ -1,35 +1,37 @@
 -- `number` takes digit after digit into the number: with those that follow it stays the word's.
-use mathlib.Core.Path.{sym, ◌∙◌}
-use native.Mathlib.Nat.{pos_of_ne-zero}
-use native.Mathlib.Omega.{arith}
-use Rattle.console.proofs.DigitLaws.{fitted_lt, number_end, number_stray, number_on, number_begins, number_none, room}
+use Rattle.std.proofs.Common.{◌≡◌, ◌≤◌, ◌<◌, get_or, arith, tests, sym, ◌∙◌}
+use Rattle.console.specs.Digits.{digit_of}
+use Rattle.console.proofs.DigitLaws.{fitted_lt, number_end, number_stray, number_on, number_begins, digit_none, digit_some}
 use Rattle.console.proofs.digits.number.Goals as goal
 
-pub returns-then-word-eq0 : goal.returns-then-word-eq0
-returns-then-word-eq0 c = number_none _ _ _ c.if-word-eq0.true
+pub loop-byte-init : goal.loop-byte-init
+loop-byte-init c = (omega arith, number_begins _ _ _ (grind (arith, tests)))
 
-pub loop-i-init : goal.loop-i-init
-loop-i-init c = (omega arith, omega arith, number_begins _ _ _ (pos_of_ne-zero c.if-word-eq0.false))
+pub returns-in_err-digit : goal.returns-in_err-digit
+returns-in_err-digit c =
+    let none : 16 ≤ digit_of (get_or c.args.word.now c.loop-byte.byte-index 0) =
+    rw (← c.from.ensures) (digit_none c.from.result 16 (omega arith) (grind (arith, c.in_err-digit.ensures.value))) in
+    let stray : c.args.base ≤ digit_of (get_or c.args.word.now c.loop-byte.byte-index 0) = omega (arith, c.requires.1, none) in
+    c.from_residual.ensures ∙ sym (number_stray _ _ _ _ _ c.loop-byte-test.true stray) ∙ c.loop-byte.invariant.1
 
 pub returns-then-base-digit : goal.returns-then-base-digit
 returns-then-base-digit c =
-    let stray = rw c.digit_of-digit.ensures at c.if-base-digit.true in
-    sym (number_stray _ _ _ _ _ c.loop-i-test.true stray) ∙ c.loop-i.invariant.2
+    let d = c.in_ok-digit.ensures.value in
+    let same : digit_of (get_or c.args.word.now c.loop-byte.byte-index 0) ≡ c.in_ok-digit.digit =
+    rw (← c.from.ensures, d.1) (digit_some c.from.result 16 (omega arith) d.0) in
+    let stray : c.args.base ≤ digit_of (get_or c.args.word.now c.loop-byte.byte-index 0) = omega (arith, c.if-base-digit.true, same) in
+    sym (number_stray _ _ _ _ _ c.loop-byte-test.true stray) ∙ c.loop-byte.invariant.1
 
-pub overflow_mul-n : goal.overflow_mul-n
-overflow_mul-n c = omega (arith, room _ _ c.loop-i.invariant.1 c.requires.1)
-
-pub overflow_add-n : goal.overflow_add-n
-overflow_add-n c = omega (arith, room _ _ c.loop-i.invariant.1 c.requires.1)
-
-pub loop-i-preserved : goal.loop-i-preserved
-loop-i-preserved c =
-    let b = c in let l = c in let fine = rw b.digit_of-digit.ensures at c.if-base-digit.false in (
-      omega arith,
+pub loop-byte-preserved : goal.loop-byte-preserved
+loop-byte-preserved c =
+    let d = c.in_ok-digit.ensures.value in
+    let same : digit_of (get_or c.args.word.now c.loop-byte.byte-index 0) ≡ c.in_ok-digit.digit =
+    rw (← c.from.ensures, d.1) (digit_some c.from.result 16 (omega arith) d.0) in
+    let fine : digit_of (get_or c.args.word.now c.loop-byte.byte-index 0) < c.args.base = omega (arith, c.if-base-digit.false, same) in (
       rw c.fit-n.ensures (fitted_lt _ _),
-      rw (c.fit-n.ensures, b.digit_of-digit.ensures)
-          (sym (number_on _ _ _ _ _ l.requires.0 b.loop-i-test.true fine) ∙ l.loop-i.invariant.2),
+      rw (c.fit-n.ensures, c.from-in-loop-byte.ensures, c.from-in-loop-byte-2.ensures, ← same)
+          (sym (number_on _ _ _ _ _ (omega (arith, c.requires.0)) c.loop-byte-test.true fine) ∙ c.loop-byte.invariant.1),
     )
 
 pub returns : goal.returns
-returns c = sym (number_end _ _ _ _ _ c.loop-i-test.false c.loop-i.invariant.1) ∙ c.loop-i.invariant.2
+returns c = sym (number_end _ _ _ _ _ c.loop-byte-test.false c.loop-byte.invariant.0) ∙ c.loop-byte.invariant.1

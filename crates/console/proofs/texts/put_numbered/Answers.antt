@@ -1,16 +1,19 @@
 -- `put_numbered` lays three pieces, each from the end of the one before.
-use mathlib.Core.Path.{sym}
-use native.Mathlib.Omega.{arith}
-use Rattle.console.proofs.TextLaws.{decimal_length, numbered_laid, numbered_length}
+use Rattle.std.proofs.Common.{◌≡◌, ◌≤◌, length, arith, sym, ◌∙◌}
+use lib.Seq.{length-take-le}
+use Rattle.console.specs.Texts.{decimal}
+use Rattle.console.proofs.TextLaws.{decimal_written, numbered_laid, numbered_length}
 use Rattle.console.proofs.texts.put_numbered.Goals as goal
 
-pub put-requires : goal.put-requires
-put-requires c =
-    let d = c in let p = c in let s = c in
-    omega (arith, s.requires, p.put-first.ensures.0, p.put-first.auto.out, d.put_decimal-second.ensures.0, d.put_decimal-second.auto.out, decimal_length 20 s.args.n)
+pub returns-clause-value : goal.returns-clause-value
+returns-clause-value c =
+    let first = c.put-first.ensures in let second = c.put-second.ensures in let f = c.format.ensures in
+    let digits : c.as_bytes.result.now ≡ decimal 20 c.args.n =
+    c.as_bytes.ensures.value ∙ f.text ∙ sym (decimal_written c.args.n (omega arith) (let fits = f.fits in rw f.text at fits)) in
+    rw (c.put.ensures.0, c.put.ensures.1, second.1, second.0, digits, first.1, first.0) (sym (numbered_length _ _ _), numbered_laid _ _ _ _)
 
-pub returns : goal.returns
-returns c =
-    let q = c in let d = c in let p = c in
-    rw (q.put.ensures.0, q.put.ensures.1, d.put_decimal-second.ensures.1, p.put-first.ensures.1)
-    (rw (d.put_decimal-second.ensures.0, p.put-first.ensures.0) (sym (numbered_length _ _ _), numbered_laid _ _ _ _))
+pub returns-clause-counted : goal.returns-clause-counted
+returns-clause-counted c =
+    let within : c.put.result ≤ length c.put.new.out =
+    omega (arith, c.put.ensures.0, c.put.auto.out, c.put-second.auto.out, c.put-first.auto.out, c.put-second.ensures.0, c.put-first.ensures.0, c.requires, c.format.ensures.fits) in
+    (within, sym (length-take-le _ _ within))

@@ -48,9 +48,6 @@ loop-enabled-preserved c =
       | else-enabled-eq1 w ↦ rw (w.below-is, w.half-is) (halve_passed loop.invariant more (last_not _ w.if-enabled-eq1.false))
     ]
 
-pub overflow_mul-result : goal.overflow_mul-result
-overflow_mul-result c = omega (arith, ended c.before, whole-lt c.before.before.before.before)
-
 pub overflow_add-result : goal.overflow_add-result
 overflow_add-result c = omega (arith, ended c.before, whole-lt c.before.before.before.before)
 

@@ -1,5 +1,6 @@
 -- `mixes::logical::blend_of` meets its contract: its masks are those of the code's bits, which make the mix.
 use mathlib.Core.Path.{◌≡◌, ◌∙◌, ap}
+use Prim.Native.Nat.{ℕ}
 use lib.Bits.{bit_xor}
 use Rattle.mixes.specs.declared.logical.Blend.{Blend}
 use Rattle.mixes.specs.Inner.{blended}
@@ -23,4 +24,4 @@ returns c = λ cut logical s d.
       destination = bit_xor (bit_xor (destination i) (neither i)) depth.planes;
       both = bit_xor (bit_xor (both i) (source i)) (bit_xor (destination i) (neither i));
     } in
-    ap (λ (b : Blend). blended depth.bits b s d) made ∙ blend_mixed _ cut.planes _ logical s d
+    ap (λ (b : Blend ℕ). blended depth.bits b s d) made ∙ blend_mixed _ cut.planes _ logical s d

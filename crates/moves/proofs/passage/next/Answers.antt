@@ -3,41 +3,36 @@ use mathlib.Core.Path.{◌≡◌, ◌∙◌, sym, ap}
 use mir.Syntax.{w32}
 use mir.ValLaws.{to_z-of_z}
 use borrow.Author.Rules.{rules}
-use Rattle.parts.specs.Drawings.{with_inside}
+use Rattle.moves.specs.declared.Travel.{Travel}
+use Rattle.moves.specs.declared.Pen.{Pen}
 use Rattle.moves.specs.declared.Way.{Way}
-use Rattle.moves.specs.Moves.{pen_with, moved}
+use Rattle.moves.specs.Moves.{pen_with}
 use Rattle.moves.specs.Inner.{went_by}
+use Rattle.moves.proofs.PenLaws.{turned_once, column_turned, whole_row}
 use Rattle.moves.proofs.passage.next.Goals as goal
-use Rattle.moves.proofs.passage.next.Goals.{After-way_of-way}
 
 -- the pen goes the way that it is known to be
-known : (c : After-way_of-way) {w : Way} → let a = c.args in
-    c.way_of-way.result ≡ w → went_by a.travel w a.pen ≡ moved a.travel (pen_with (with_inside a.inside a.pen.drawing) a.pen)
-known c e = ap (λ w. went_by c.args.travel w c.args.pen) (sym e) ∙ c.way_of-way.ensures
-
-pub step_pen-requires : goal.step_pen-requires
-step_pen-requires c = c.requires
-
-pub pass_column-requires : goal.pass_column-requires
-pass_column-requires c = c.requires
-
-pub pass_row-requires : goal.pass_row-requires
-pass_row-requires c = c.requires
+known : (s : Travel) (pen : Pen) {v w : Way} {moved : Pen} → v ≡ w → went_by s v pen ≡ moved → went_by s w pen ≡ moved
+known s pen e went = ap (λ w. went_by s w pen) (sym e) ∙ went
 
 pub returns-in-Along : goal.returns-in-Along
 unfolding went_by
-returns-in-Along c =
+returns-in-Along c = let a = c.args in
+    let w = c.in-Along in
     rw (c.step_pen.ensures, to_z-of_z w32 c.in-Along.e (search rules))
-    (known c.before.before c.in-Along.is)
+    (turned_once a.travel w.drawing a.pen w.from w.to w.e ∙ known a.travel a.pen c.in-Along.is c.way_of.ensures)
 
 pub returns-in-Column : goal.returns-in-Column
 unfolding went_by
-returns-in-Column c = c.pass_column.ensures ∙ known c.before.before c.in-Column.is
+returns-in-Column c = let a = c.args in
+    c.pass_columns.ensures ∙ column_turned a.travel c.in-Column.drawing a.pen ∙ known a.travel a.pen c.in-Column.is c.way_of.ensures
 
 pub returns-in-Row : goal.returns-in-Row
 unfolding went_by
-returns-in-Row c = c.pass_row.ensures ∙ known c.before.before c.in-Row.is
+returns-in-Row c = let a = c.args in
+    c.return_row.ensures ∙ whole_row a.travel c.in-Row.drawing a.pen ∙ known a.travel a.pen c.in-Row.is c.way_of.ensures
 
 pub returns-in-Here : goal.returns-in-Here
-unfolding went_by
-returns-in-Here c = c.pen_with.ensures ∙ known c.before.before c.in-Here.is
+unfolding went_by pen_with
+returns-in-Here c = let a = c.args in
+    rw (to_z-of_z w32 a.pen.e (search rules)) (known a.travel a.pen c.in-Here.is c.way_of.ensures)

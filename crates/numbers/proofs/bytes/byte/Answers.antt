@@ -1,26 +1,13 @@
--- `byte` is byte k of x: at each of the four places by arithmetic, and past them because x is below 256 to the fourth.
-use Rattle.numbers.proofs.ByteLaws.{byte_beyond}
+-- `byte` is byte k of x: a shift by bytes is a division by a power of 256, and past the fourth x is below it.
 use mathlib.Core.Path.{sym}
-use native.Mathlib.Omega.{arith}
-use Rattle.numbers.specs.Bytes.{byte_of}
 use borrow.Author.Rules.{rules}
+use Rattle.numbers.specs.Bytes.{byte_of}
+use Rattle.numbers.proofs.ByteLaws.{two_pow_eight, byte_beyond}
 use Rattle.numbers.proofs.bytes.byte.Goals as goal
 
-pub returns-in-0 : goal.returns-in-0
+pub returns-then-k-lt4 : goal.returns-then-k-lt4
 unfolding byte_of
-returns-in-0 c = rw c.in-0.is (omega arith)
+returns-then-k-lt4 c = rw two_pow_eight
 
-pub returns-in-1 : goal.returns-in-1
-unfolding byte_of
-returns-in-1 c = rw c.in-1.is (omega arith)
-
-pub returns-in-2 : goal.returns-in-2
-unfolding byte_of
-returns-in-2 c = rw c.in-2.is (omega arith)
-
-pub returns-in-3 : goal.returns-in-3
-unfolding byte_of
-returns-in-3 c = rw c.in-3.is (omega arith)
-
-pub returns-in_default : goal.returns-in_default
-returns-in_default c = let r = c.in_default.in_default-own.rest in sym (byte_beyond _ _ (search rules) (omega (arith, r.1, r.0.1, r.0.0.1, r.0.0.0.1)))
+pub returns-else-k-lt4 : goal.returns-else-k-lt4
+returns-else-k-lt4 c = sym (byte_beyond c.args.x c.args.k (search rules) c.if-k-lt4.false)

@@ -1,18 +1,14 @@
--- `destination` is the place on the destination's circle: the difference of two small numbers fits the machine's.
-use Prim.Native.Nat.{ℕ, ◌+◌, ◌%◌}
-use native.Mathlib.Omega.{arith}
-use mir.Syntax.{w16}
-use mir.ValLaws.{to_z-of_z, to_z_pos}
-use Rattle.numbers.specs.Circles.{circle, forth, residue}
-use Rattle.numbers.proofs.SignedLaws.{sub_fits}
+-- `destination` is the place on its circle, which is small enough for 16 bits.
+use lib.Dec.{lit<, lit≤}
+use mir.Syntax.{w16, w32}
+use mir.ValLaws.{to_z-of_z}
+use Rattle.numbers.proofs.SignedLaws.{circle_fits}
 use Rattle.numbers.proofs.circles.destination.Goals as goal
 
-abbrev place : ℕ → ℕ
-place x = (x % 8192 + 2048) % 8192
-
-pub overflow_sub-result : goal.overflow_sub-result
-overflow_sub-result c = rw (to_z_pos w16 (place c.args.x) (omega arith)) (sub_fits w16 (place c.args.x) 2048 (omega arith))
+pub overflow_cast-result : goal.overflow_cast-result
+overflow_cast-result c =
+    rw (to_z-of_z w32 _ (record { sfits = c.onto.type_inv }), c.onto.ensures) (circle_fits w16 2048 8192 _ (lit< tt) (lit≤ tt))
 
 pub returns : goal.returns
-unfolding circle forth residue
-returns c = let p = place c.args.x in rw (to_z_pos w16 p (omega arith), to_z-of_z w16 _ (sub_fits w16 p 2048 (omega arith)))
+returns c =
+    rw (to_z-of_z w32 _ (record { sfits = c.onto.type_inv }), c.onto.ensures) (to_z-of_z w16 _ (circle_fits w16 2048 8192 _ (lit< tt) (lit≤ tt)))

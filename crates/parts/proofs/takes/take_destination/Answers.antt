@@ -1,23 +1,13 @@
--- `take_destination` chooses as the definition does, between the circle's place of the latched bytes and what is stored.
-use mathlib.Core.Path.{sym, ◌∙◌}
+-- `take_destination` is the register after the write: the circle's place of what `take` hands on.
+use mathlib.Core.Path.{◌∙◌}
 use mir.Syntax.{w16}
 use mir.ValLaws.{to_z-of_z}
 use Rattle.parts.specs.Takes.{taken_onto}
+use Rattle.parts.proofs.TakeLaws.{taken_by}
 use Rattle.parts.proofs.takes.take_destination.Goals as goal
 
-pub returns-then-touches : goal.returns-then-touches
+pub returns : goal.returns
 unfolding taken_onto
-returns-then-touches c =
-    simp (sym c.touches.ensures ∙ c.if-touches.true)
-    (rw (
-      to_z-of_z w16 c.destination.result (record { sfits = c.destination.type_inv }),
-      c.destination.ensures,
-      c.latch2.ensures,
-      c.half_word.ensures,
-      to_z-of_z w16 c.args.stored c.ranges.stored,
-    ))
-
-pub returns-else-touches : goal.returns-else-touches
-unfolding taken_onto
-returns-else-touches c =
-    simp (sym c.touches.ensures ∙ c.if-touches.false) (to_z-of_z w16 c.args.stored c.ranges.stored)
+returns c =
+    rw (to_z-of_z w16 c.map_or.result (record { sfits = c.map_or.type_inv }), ← to_z-of_z w16 c.args.stored c.ranges.stored)
+    (taken_by _ _ _ _ _ _ _ c.take.ensures c.map_or.ensures (λ q. q ∙ rw c.half_word.ensures))

@@ -1,12 +1,15 @@
--- `take_word` chooses as the definition does: its test is `touched`, and its bytes are the latched ones.
-use mathlib.Core.Path.{sym, ◌∙◌}
-use Rattle.parts.specs.Takes.{taken}
+-- `take_word` is the register after the write: what `take` hands on, or what is stored.
+use mathlib.Core.Path.{sym}
+use Rattle.std.specs.Prelude.{Option, Some, None, ℕ}
+use Rattle.std.specs.Option.{unwrap_or}
+use Rattle.numbers.specs.Bytes.{latched}
+use Rattle.parts.specs.Takes.{touched, taken}
+use Rattle.numbers.proofs.Choices.{choose_part}
 use Rattle.parts.proofs.takes.take_word.Goals as goal
 
-pub returns-then-touches : goal.returns-then-touches
+pub returns : goal.returns
 unfolding taken
-returns-then-touches c = simp (sym c.touches.ensures ∙ c.if-touches.true) c.latch4.ensures
-
-pub returns-else-touches : goal.returns-else-touches
-unfolding taken
-returns-else-touches c = simp (sym c.touches.ensures ∙ c.if-touches.false)
+returns c =
+    let a = c.args in
+    rw (c.unwrap_or.ensures, c.take.ensures)
+    (sym (choose_part (λ (o : Option ℕ). unwrap_or o a.stored) (touched 4 a.at a.w) (Some (latched 4 a.at a.w a.stored)) None))

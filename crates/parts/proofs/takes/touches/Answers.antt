@@ -3,10 +3,10 @@ use borrow.Author.Tests.{lt-ltb, le-ltb}
 use Rattle.parts.specs.Takes.{touched}
 use Rattle.parts.proofs.takes.touches.Goals as goal
 
-pub returns-then-offset-at : goal.returns-then-offset-at
+pub returns-then-w-at : goal.returns-then-w-at
 unfolding touched
-returns-then-offset-at c = simp (lt-ltb _ _ c.if-offset-at.true)
+returns-then-w-at c = simp (lt-ltb _ _ c.if-w-at.true)
 
-pub returns-else-offset-at : goal.returns-else-offset-at
+pub returns-else-w-at : goal.returns-else-w-at
 unfolding touched
-returns-else-offset-at c = simp (le-ltb _ _ c.if-offset-at.false)
+returns-else-w-at c = simp (le-ltb _ _ c.if-w-at.false)

@@ -1,13 +1,13 @@
 -- `edge_of` is the choice by the drawing mode.
-use mathlib.Core.Path.{sym, ◌∙◌}
-use borrow.Author.Tests.{eq-eqb, ne_eqb}
+use native.Mathlib.Omega.{arith}
+use Rattle.std.proofs.lemmas.Grind.{common_steps}
 use Rattle.places.specs.Decoded.{edge_of}
 use Rattle.places.proofs.decoded.edge_of.Goals as goal
 
 pub returns-then-mode_of-eq3 : goal.returns-then-mode_of-eq3
 unfolding edge_of
-returns-then-mode_of-eq3 c = rw (eq-eqb _ 3 (sym c.mode_of.ensures ∙ c.if-mode_of-eq3.true))
+returns-then-mode_of-eq3 c = grind (arith, common_steps)
 
 pub returns-else-mode_of-eq3 : goal.returns-else-mode_of-eq3
 unfolding edge_of
-returns-else-mode_of-eq3 c = rw (ne_eqb _ 3 (λ e. c.if-mode_of-eq3.false (c.mode_of.ensures ∙ e)))
+returns-else-mode_of-eq3 c = grind (arith, common_steps)

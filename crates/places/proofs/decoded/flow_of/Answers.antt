@@ -1,18 +1,9 @@
--- `flow_of` is the definition, field by field: each call gives its field, and the mode is below 4.
+-- `flow_of` is the definition, field by field: each call gives its field.
 use native.Mathlib.Omega.{arith}
-use Rattle.rules.proofs.ModeLaws.{mode_lt}
+use Rattle.std.proofs.lemmas.Grind.{common_steps}
 use Rattle.places.specs.Decoded.{flow_of}
 use Rattle.places.proofs.decoded.flow_of.Goals as goal
 
-pub overflow_cast-result : goal.overflow_cast-result
-overflow_cast-result c = omega (arith, c.mode_of.ensures, mode_lt c.args.operations)
-
 pub returns : goal.returns
 unfolding flow_of
-returns c = rw (
-  c.mode_of.ensures,
-  c.is_fill.ensures,
-  c.background_source.ensures,
-  c.foreground_source.ensures,
-  c.pattern_field.ensures,
-)
+returns c = grind (arith, common_steps)

@@ -2,6 +2,7 @@
 use mathlib.Core.Path.{◌≡◌, ◌∙◌, sym, ap}
 use mathlib.Core.Bool.{false, not}
 use lib.IntN.{ℤ}
+use Rattle.std.specs.Prelude.{Ok, Err}
 use mir.Syntax.{w32}
 use mir.ValLaws.{to_z-of_z}
 use Rattle.numbers.specs.Choose.{choose}
@@ -9,7 +10,7 @@ use Rattle.places.specs.Places.{on_map, in_mask, is_move, nulled_by, is_nulled}
 use Rattle.places.proofs.ModeLaws.{moves_by_lem}
 use Rattle.moves.specs.declared.Pen.{Pen}
 use Rattle.places.specs.declared.Setup.{Setup}
-use Rattle.position.specs.declared.Fate.TheVariants.{OutsideMap, OutsideMask, Painted}
+use Rattle.position.specs.declared.Fate.TheVariants.{OutsideMap, OutsideMask}
 use Rattle.position.specs.Inner.{foreseen_of}
 use borrow.Author.Rules.{rules}
 use Rattle.position.proofs.judge.foresee.Goals as goal
@@ -23,20 +24,17 @@ unfolding is_nulled
 nulled c =
     let a = c.args in
     sym (c.is_nulled.ensures
-    ∙ ap (λ (z : ℤ). nulled_by a.setup z a.pen.drawing) (to_z-of_z w32 a.pen.e (search (rules, c.struct_told-1.given.1))))
+    ∙ ap (λ (z : ℤ). nulled_by a.setup z a.pen.drawing) (to_z-of_z w32 a.pen.e (search rules)))
 
 -- where nothing holds it back, the map and the mask boundary tell
 clear : (setup : Setup) (pen : Pen) → is_move setup.travel pen.drawing ≡ false → is_nulled setup pen ≡ false
-    → foreseen_of setup pen ≡ choose (not (on_map setup.brush pen)) OutsideMap (choose (not (in_mask setup.brush pen)) OutsideMask Painted)
+    → foreseen_of setup pen ≡ choose (not (on_map setup.brush pen)) (Err OutsideMap) (choose (not (in_mask setup.brush pen)) (Err OutsideMask) (Ok tt))
 unfolding foreseen_of
 clear setup pen drawn plain = rw (drawn, plain)
 
 pub returns-then-is_move : goal.returns-then-is_move
 unfolding foreseen_of
 returns-then-is_move c = rw (moves (goal.at.returns-then-is_move c).After-is_move ∙ c.if-is_move.true)
-
-pub is_nulled-requires : goal.is_nulled-requires
-is_nulled-requires c = c.code_in-code.ensures
 
 pub returns-then-is_nulled : goal.returns-then-is_nulled
 unfolding foreseen_of

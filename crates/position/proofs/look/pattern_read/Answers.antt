@@ -15,9 +15,6 @@ pub returns-then-not-setup : goal.returns-then-not-setup
 returns-then-not-setup c = let start = c in
     sym (pattern_unread _ _ _ start.requires.0 (not-true start.args.setup.travel.pattern.used c.if-not-setup.true))
 
-pub get-pixel-requires : goal.get-pixel-requires
-get-pixel-requires c = c.requires.1.pattern (uses (goal.at.get-pixel-requires c).Else-not-setup)
-
 pub returns-then-setup : goal.returns-then-setup
 unfolding pattern_read inside_at is_one
 returns-then-setup c = let used = uses (goal.at.returns-then-setup c).Else-not-setup in

@@ -5,9 +5,6 @@ use Rattle.position.specs.Drawn.{source_pixel}
 use Rattle.position.specs.Inner.{source_read}
 use Rattle.position.proofs.look.source_read.Goals as goal
 
-pub get-requires : goal.get-requires
-get-requires c = c.requires.source (sym c.reads_source.ensures ∙ c.if-reads_source.true)
-
 pub returns-then-reads_source : goal.returns-then-reads_source
 unfolding source_pixel source_read
 returns-then-reads_source c = c.get.ensures ∙ sym (choose_true _ 0 (sym c.reads_source.ensures ∙ c.if-reads_source.true))

@@ -22,13 +22,7 @@ pub dots-requires : goal.dots-requires
 dots-requires c =
     let a = c.args in
     let h = c.requires in
-    (beside_fewer a.source a.n a.at a.count _ h.0 c.lead-before.result c.lead-before.ensures.0, h.1)
-
-pub overflow_add-source : goal.overflow_add-source
-overflow_add-source c =
-    let h = c.requires in
-    let lead = c.lead-before in
-    omega (arith, h.0.pattern (lead.result - 1) (omega (arith, lead.ensures.0, h.2)))
+    beside_fewer a.source a.n a.at a.count _ h.0 c.lead-before.result c.lead-before.ensures.0
 
 pub sixteens-requires : goal.sixteens-requires
 sixteens-requires c =
@@ -36,7 +30,7 @@ sixteens-requires c =
     let h = c.requires in
     let l = c in
     rw c.dots.auto.memory
-    (beside_whole a.source a.n a.at a.count _ h.0 l.lead-before.result _ (whole (goal.at.sixteens-requires c).After-lead-before).0 (whole (goal.at.sixteens-requires c).After-lead-before).1, h.1)
+    (beside_whole a.source a.n a.at a.count _ h.0 l.lead-before.result _ (whole (goal.at.sixteens-requires c).After-lead-before).0 (whole (goal.at.sixteens-requires c).After-lead-before).1)
 
 pub dots-requires-2 : goal.dots-requires-2
 dots-requires-2 c =
@@ -44,7 +38,7 @@ dots-requires-2 c =
     let h = c.requires in
     let l = c in
     rw (c.sixteens.auto.memory, c.dots.auto.memory)
-    (beside_part a.source a.n a.at a.count _ h.0 (done (goal.at.dots-requires-2 c).After-lead-before) (a.count - done (goal.at.dots-requires-2 c).After-lead-before) (omega (arith, rest (goal.at.dots-requires-2 c).After-lead-before)), h.1)
+    (beside_part a.source a.n a.at a.count _ h.0 (done (goal.at.dots-requires-2 c).After-lead-before) (a.count - done (goal.at.dots-requires-2 c).After-lead-before) (omega (arith, rest (goal.at.dots-requires-2 c).After-lead-before)))
 
 pub returns : goal.returns
 returns c =

@@ -1,7 +1,7 @@
 -- `rows::slides::slide` goes down by what the pixels are apart in their bytes.
-use Rattle.std.proofs.Common.{◌≡◌, ◌<◌}
+use Rattle.std.proofs.Common.{◌≡◌}
 use Rattle.pixels.specs.Inner.{shift_at}
-use Rattle.rows.proofs.ApartLaws.{shift_lt, turned_of}
+use Rattle.rows.proofs.ApartLaws.{turned_of}
 use Rattle.rows.proofs.slides.slide.Goals as goal
 use Rattle.rows.proofs.slides.slide.Goals.{After-shift_at-there}
 
@@ -11,9 +11,6 @@ here c = c.shift_at-here.ensures
 
 there : (c : After-shift_at-there) → let l = c.args.lane in c.shift_at-there.result ≡ shift_at l.format l.from
 there c = c.shift_at-there.ensures
-
-small : (c : After-shift_at-there) → (c.shift_at-here.result < 8) × (c.shift_at-there.result < 8)
-small c = let l = c.args.lane in rw (here c, there c) (shift_lt l.format l.to, shift_lt l.format l.from)
 
 pub slide_down-requires : goal.slide_down-requires
 slide_down-requires c =

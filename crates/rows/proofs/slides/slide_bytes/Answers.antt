@@ -6,7 +6,7 @@ use Rattle.rows.specs.Inner.{swept}
 use Rattle.rows.proofs.LaneLaws.{first_passed}
 use Rattle.rows.proofs.SweepLaws.{swept_two}
 use Rattle.rows.proofs.LiesLaws.{first_onward, left_in_byte}
-use Rattle.rows.proofs.ApartLaws.{apart_fewer, apart_onward, onward_reach, turned_onward}
+use Rattle.rows.proofs.ApartLaws.{apart_fewer, apart_onward, turned_onward}
 use Rattle.rows.proofs.slides.slide_bytes.Goals as goal
 use Rattle.rows.proofs.slides.slide_bytes.Goals.{After-bytes_in-bytes}
 
@@ -21,11 +21,6 @@ slide_whole-requires c =
 
 pub pixels_in-done-requires : goal.pixels_in-done-requires
 pixels_in-done-requires c = omega (arith, few (goal.at.pixels_in-done-requires c).After-bytes_in-bytes)
-
-pub onward-requires : goal.onward-requires
-onward-requires c =
-    let a = c.args in
-    onward_reach a.lane _ c.pixels_in-done.result a.count c.if-done-count.true c.requires.0
 
 pub slide_edge-requires : goal.slide_edge-requires
 slide_edge-requires c =

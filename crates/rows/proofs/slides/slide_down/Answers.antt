@@ -1,10 +1,10 @@
 -- `rows::slides::slide_down` makes the pixels before the first whole byte, and then those from there on.
-use Rattle.std.proofs.Common.{◌≡◌, ℕ, ◌-◌, ◌<◌, ap, ◌∙◌, arith}
+use Rattle.std.proofs.Common.{◌-◌, ◌<◌, ap, ◌∙◌, arith}
 use Rattle.rows.specs.Inner as inner
 use Rattle.rows.specs.Inner.{swept}
 use Rattle.rows.proofs.LaneLaws.{gone_passed}
 use Rattle.rows.proofs.SweepLaws.{swept_two}
-use Rattle.rows.proofs.ApartLaws.{apart_fewer, apart_onward, onward_reach, turned_onward}
+use Rattle.rows.proofs.ApartLaws.{apart_fewer, apart_onward, turned_onward}
 use Rattle.rows.proofs.slides.slide_down.Goals as goal
 
 pub slide_edge-requires : goal.slide_edge-requires
@@ -18,12 +18,6 @@ slide_edge-requires c =
       gone_passed l.back l.format l.to c.gone-passed.result passed,
       rw passed lead.2,
     )
-
-pub onward-requires : goal.onward-requires
-onward-requires c =
-    let a = c.args in
-    let h = c.requires.0 in
-    onward_reach a.lane _ c.lead-before.result a.count c.if-before-count.true h
 
 pub slide_bytes-requires : goal.slide_bytes-requires
 slide_bytes-requires c =
@@ -45,10 +39,3 @@ returns-then-before-count c = λ op alike.
     (rw c.onward.ensures at c.slide_bytes.ensures) op alike
     ∙ ap (swept op (inner.onward a.lane done) (a.count - done)) before
     ∙ swept_two op a.lane done (a.count - done) a.count a.memory.now (omega arith)
-
-pub returns-else-before-count : goal.returns-else-before-count
-returns-else-before-count c = λ op alike.
-    let a = c.args in
-    let few = c.lead-before.ensures.0 in
-    let all : c.lead-before.result ≡ a.count = omega (arith, few) in
-    c.slide_edge.ensures op alike ∙ ap (λ (n : ℕ). swept op a.lane n a.memory.now) all

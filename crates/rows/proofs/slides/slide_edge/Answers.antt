@@ -4,8 +4,7 @@ use Rattle.numbers.specs.Fields.{field, with_field}
 use Rattle.pixels.specs.Maps.{bits_of}
 use Rattle.rows.specs.Inner.{wholly, swept_from, from_top, joined, source_end}
 use Rattle.rows.proofs.LaneLaws.{along_none}
-use Rattle.rows.proofs.ByteLaws.{Bytes, edge_bits, edge_low}
-use Rattle.rows.proofs.ApartLaws.{end_held}
+use Rattle.rows.proofs.ByteLaws.{Bytes, edge_low}
 use Rattle.rows.proofs.GatherLaws.{gathered, swept_gathered}
 use Rattle.rows.proofs.slides.slide_edge.Goals as goal
 use Rattle.rows.proofs.slides.slide_edge.Goals.{After-bits_of, After-is_from_top-top, After-join-s, After-source_end-high, After-source_end-low}
@@ -30,20 +29,6 @@ high c =
 some : (c : After-is_from_top-top) → 0 < c.args.count
 some c = omega (arith, c.if-count-eq0.false)
 
-pub bounds-memory-low : goal.bounds-memory-low
-bounds-memory-low c =
-    let a = c.args in
-    let l = a.lane in
-    let h = c.requires.0 in
-    rw (low (goal.at.bounds-memory-low c).After-source_end-low) (end_held l _ a.count (some (goal.at.bounds-memory-low c).After-is_from_top-top) h (from_top l.back l.format))
-
-pub bounds-memory-high : goal.bounds-memory-high
-bounds-memory-high c =
-    let a = c.args in
-    let l = a.lane in
-    let h = c.requires.0 in
-    rw (high (goal.at.bounds-memory-high c).After-source_end-high) (end_held l _ a.count (some (goal.at.bounds-memory-high c).After-is_from_top-top) h (not (from_top l.back l.format)))
-
 -- the byte that is gathered
 source : (c : After-join-s) → let a = c.args in c.join-s.result ≡ gathered a.lane a.down a.count a.memory.now
 source c =
@@ -56,11 +41,6 @@ bytes c i = (c.type_inv.memory i).fits
 -- the pixels' bits
 width : (c : After-bits_of) → let a = c.args in a.count * c.bits_of.result ≡ a.count * bits_of a.lane.format
 width c = ap (λ (n : ℕ). c.args.count * n) c.bits_of.ensures
-
-pub overflow_mul-count : goal.overflow_mul-count
-overflow_mul-count c =
-    let a = c.args in
-    omega (arith, width c, edge_bits a.lane.format a.passed a.count c.requires.3)
 
 pub mend-requires : goal.mend-requires
 mend-requires c =

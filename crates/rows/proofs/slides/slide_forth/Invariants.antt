@@ -1,11 +1,7 @@
 -- `rows::slides::slide_forth` makes the bytes in order: after i turns memory is that of i bytes made.
-use Rattle.std.proofs.Common.{◌≡◌, ◌-◌, ◌≤◌, false, length}
+use Rattle.std.proofs.Common.{◌≡◌, false}
 use Rattle.rows.specs.Inner.{wholly, slid}
 use Rattle.rows.proofs.slides.slide_forth.Given as goal
 
 abbrev pub invariant-loop-i : goal.invariant-loop-i
-invariant-loop-i l =
-    (l.i ≤ l.count) × (length l.memory ≡ length l.initial.memory) × (l.memory ≡ slid (wholly l.whole) l.down false l.low l.high l.to l.i l.initial.memory)
-
-abbrev pub decreases-loop-i : goal.decreases-loop-i
-decreases-loop-i l = l.count - l.i
+invariant-loop-i l = l.memory ≡ slid (wholly l.whole) l.down false l.low l.high l.to l.i l.initial.memory

@@ -2,7 +2,6 @@
 use Rattle.std.proofs.Common.{◌≡◌, ℕ, ◌+◌, ◌-◌, ◌*◌, ◌/◌, ◌^◌, ◌<◌, ◌≤◌, Bool, false, not, length, sym, refl, ap, ◌∙◌, subst, mul-le-mul_right, one-mul, zero-mul, arith}
 use Rattle.numbers.specs.Choose.{choose}
 use Rattle.pixels.specs.Maps.{bits_of}
-use Rattle.pixels.proofs.Maps.{by_size_lem}
 use Rattle.rows.specs.declared.Lane.{Lane}
 use Rattle.rows.specs.Inner.{wholly, Reach, swept_from, from_top, slid, source_end}
 use Rattle.rows.proofs.ByteLaws.{Bytes, per_some}
@@ -19,15 +18,6 @@ returns-then-bytes-eq0 c = λ op alike. rw (c.if-bytes-eq0.true, zero-mul (8 / b
 -- the masks are bytes
 masks : (c : Start) → Masks c.args.whole
 masks c = record { always = omega arith; source = omega arith; destination = omega arith; both = omega arith }
-
-per-few : (format : ℕ) → 8 / bits_of format ≤ 8
-unfolding bits_of
-per-few = by_size_lem (λ (k : ℕ). 8 / 2 ^ k ≤ 8) (omega arith) (omega arith) (omega arith) (omega arith)
-
-pub pixels_in-per-requires : goal.pixels_in-per-requires
-pixels_in-per-requires c =
-    let f = c.args.lane.format in
-    rw (one-mul (8 / bits_of f)) (omega (arith, per-few f))
 
 -- a byte's pixels
 per : (c : After-pixels_in-per) → c.pixels_in-per.result ≡ 8 / bits_of c.args.lane.format

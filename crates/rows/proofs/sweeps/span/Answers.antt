@@ -1,11 +1,7 @@
 -- `rows::sweeps::span` is the largest number of so many bits, shifted.
 use Rattle.std.proofs.Common.{◌≡◌, ℕ, ◌+◌, ◌-◌, ◌*◌, ◌%◌, ◌^◌, ◌<◌, ◌≤◌, sym, arith, pow_pos, pow_mono, shl_lt, shl_exact}
 use lib.Pow.{ones_lt, high_ones}
-use Rattle.numbers.proofs.Fields.{one_shl}
 use Rattle.rows.proofs.sweeps.span.Goals as goal
-
-ends : (bits shift : ℕ) → shift + bits ≤ 8 → 1 * 2 ^ bits % 2 ^ 32 ≡ 2 ^ bits
-ends bits shift h = one_shl bits 32 (omega arith)
 
 up : (bits shift : ℕ) → shift + bits ≤ 8 → (2 ^ bits - 1) * 2 ^ shift % 2 ^ 32 ≡ (2 ^ bits - 1) * 2 ^ shift
 up bits shift h = shl_exact bits shift 32 (ones_lt bits) (omega arith)
@@ -16,11 +12,8 @@ within bits shift h =
     let few : 2 ^ (bits + shift) ≤ 2 ^ 8 = pow_mono both in
     omega (arith, shl_lt bits shift (ones_lt bits))
 
-pub overflow_sub-ones : goal.overflow_sub-ones
-overflow_sub-ones c = rw (ends c.args.bits c.args.shift c.requires) (pow_pos c.args.bits)
-
 pub overflow_cast-result : goal.overflow_cast-result
-overflow_cast-result c = let a = c.args in rw (ends a.bits a.shift c.requires, up a.bits a.shift c.requires) (omega (arith, within a.bits a.shift c.requires))
+overflow_cast-result c = let a = c.args in rw (c.ones.ensures, up a.bits a.shift c.requires) (omega (arith, within a.bits a.shift c.requires))
 
 pub returns : goal.returns
-returns c = let a = c.args in rw (ends a.bits a.shift c.requires, up a.bits a.shift c.requires) (sym (high_ones c.args.bits c.args.shift))
+returns c = let a = c.args in rw (c.ones.ensures, up a.bits a.shift c.requires) (sym (high_ones c.args.bits c.args.shift))

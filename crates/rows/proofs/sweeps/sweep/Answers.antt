@@ -1,10 +1,10 @@
 -- `rows::sweeps::sweep` makes the pixels before the first whole byte, and then those from there on.
-use Rattle.std.proofs.Common.{◌≡◌, ℕ, ◌+◌, ◌-◌, ◌^◌, ◌<◌, ◌≤◌, ap, ◌∙◌, arith}
+use Rattle.std.proofs.Common.{◌-◌, ◌<◌, ap, ◌∙◌, arith}
 use Rattle.rows.specs.Inner as inner
 use Rattle.rows.specs.Inner.{swept}
 use Rattle.rows.proofs.LaneLaws.{gone_passed}
 use Rattle.rows.proofs.SweepLaws.{swept_two}
-use Rattle.rows.proofs.LiesLaws.{reach_fewer, lies_fewer, lies_onward}
+use Rattle.rows.proofs.LiesLaws.{lies_fewer, lies_onward}
 use Rattle.rows.proofs.sweeps.sweep.Goals as goal
 
 pub edge-requires : goal.edge-requires
@@ -17,13 +17,6 @@ edge-requires c =
       gone_passed l.back l.format l.to c.gone-passed.result passed,
       rw passed lead.2,
     )
-
-pub onward-requires : goal.onward-requires
-onward-requires c =
-    let a = c.args in
-    let h = c.requires in
-    let less : c.lead-before.result + 1 ≤ a.count = omega arith in
-    (reach_fewer a.lane.back a.lane.from _ a.count (2 ^ 32) less h.from, reach_fewer a.lane.back a.lane.to _ a.count (2 ^ 32) less h.to)
 
 pub sweep_bytes-requires : goal.sweep_bytes-requires
 sweep_bytes-requires c =
@@ -39,9 +32,3 @@ returns-then-before-count c = λ op alike.
     (rw c.onward.ensures at c.sweep_bytes.ensures) op alike
     ∙ ap (swept op (inner.onward a.lane done) (a.count - done)) (c.edge.ensures op alike)
     ∙ swept_two op a.lane done (a.count - done) a.count a.memory.now (omega arith)
-
-pub returns-else-before-count : goal.returns-else-before-count
-returns-else-before-count c = λ op alike.
-    let a = c.args in
-    let all : c.lead-before.result ≡ a.count = omega (arith, c.lead-before.ensures.0) in
-    c.edge.ensures op alike ∙ ap (λ (n : ℕ). swept op a.lane n a.memory.now) all

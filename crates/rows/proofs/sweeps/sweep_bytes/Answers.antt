@@ -1,12 +1,12 @@
 -- `rows::sweeps::sweep_bytes` makes the whole bytes at once, which are as many pixels, and then those that are left.
-use Rattle.std.proofs.Common.{◌≡◌, ℕ, ◌+◌, ◌-◌, ◌*◌, ◌/◌, ◌^◌, ◌≤◌, sym, refl, ap, ◌∙◌, div-mul-le_self, arith}
+use Rattle.std.proofs.Common.{◌≡◌, ℕ, ◌-◌, ◌*◌, ◌/◌, ◌≤◌, sym, refl, ap, ◌∙◌, div-mul-le_self, arith}
 use Rattle.pixels.specs.Maps.{bits_of}
 use Rattle.rows.specs.Inner as inner
 use Rattle.rows.specs.Inner.{wholly, Alike, carried, swept}
 use Rattle.rows.proofs.LaneLaws.{first_passed}
 use Rattle.rows.proofs.CarryLaws.{wholly_lt}
 use Rattle.rows.proofs.SweepLaws.{swept_two}
-use Rattle.rows.proofs.LiesLaws.{reach_fewer, lies_onward, source_reach, destination_reach, swept_whole, first_onward, left_in_byte}
+use Rattle.rows.proofs.LiesLaws.{lies_onward, source_reach, destination_reach, swept_whole, first_onward, left_in_byte}
 use Rattle.rows.proofs.sweeps.sweep_bytes.Goals as goal
 use Rattle.rows.proofs.sweeps.sweep_bytes.Goals.{After-bytes_in-bytes, After-pixels_in-done, Start}
 
@@ -42,13 +42,6 @@ made c op alike =
     (wholly_lt a.whole (record { always = omega arith; source = omega arith; destination = omega arith; both = omega arith }))
     a.memory.now (λ i. ((goal.at.After-pixels_in-done c).After-bytes_in-bytes.type_inv.memory i).fits) refl
     ∙ ap (λ (n : ℕ). swept op l n a.memory.now) (sym all)
-
-pub onward-requires : goal.onward-requires
-onward-requires c =
-    let a = c.args in
-    let h = c.requires.0 in
-    let less : c.pixels_in-done.result + 1 ≤ a.count = omega arith in
-    (reach_fewer a.lane.back a.lane.from _ a.count (2 ^ 32) less h.from, reach_fewer a.lane.back a.lane.to _ a.count (2 ^ 32) less h.to)
 
 pub edge-requires : goal.edge-requires
 edge-requires c =

@@ -1,30 +1,20 @@
--- `none_stopped` passes the codes one by one: none of those passed is 00, and a 00 among the first n stops.
-use mathlib.Core.Path.{◌≡◌, refl, sym, ap, ◌∙◌}
-use Prim.Native.Nat.{zero-le}
-use native.Mathlib.Numerals.{add-one}
+-- `none_stopped` asks the codes one by one, as many as there are.
+use mathlib.Core.Path.{refl, ◌∙◌}
+use mathlib.Core.Bool.{not}
+use native.Mathlib.Nat.{zero-add}
 use native.Mathlib.Omega.{arith}
+use borrow.Author.Rules.{rules}
+use borrow.Author.Tests.{tests}
+use Rattle.std.proofs.lemmas.Iterator.{YieldsList-from_range}
+use Rattle.std.proofs.lemmas.Iterator.Search.{all_from_yields_List}
 use Rattle.rules.specs.Codes.{stops, code_at, none_stopped}
-use Rattle.rules.proofs.CodeLaws.{none_stopped_next, code_stopping}
+use Rattle.rules.proofs.CodeLaws.{all_going}
 use Rattle.rules.proofs.codes.none_stopped.Goals as goal
-use Rattle.rules.proofs.codes.none_stopped.Goals.{After-stops}
-
-pub loop-i-init : goal.loop-i-init
-unfolding none_stopped
-loop-i-init c = (zero-le, refl)
-
--- what the test says of the code
-asked : (c : After-stops)
-    → c.stops.result ≡ stops (code_at c.args.steps c.args.count
-    c.loop-i.i)
-asked c = c.stops.ensures ∙ ap stops c.code_at.ensures
-
-pub returns-then-stops : goal.returns-then-stops
-returns-then-stops c = sym (code_stopping _ _ c.loop-i.i _ c.loop-i-test.true
-    (sym (asked c.before) ∙ c.if-stops.true))
-
-pub loop-i-preserved : goal.loop-i-preserved
-loop-i-preserved c =
-    (omega arith, rw add-one (none_stopped_next _ _ _ c.loop-i.invariant.1 (sym (asked c.before) ∙ c.if-stops.false)))
 
 pub returns : goal.returns
-returns c = let e : c.loop-i.i ≡ c.args.n = omega arith in rw e at (sym c.loop-i.invariant.1)
+unfolding none_stopped
+returns c =
+    let args = c.args in
+    all_from_yields_List (λ i. not (stops (code_at args.steps args.count i))) _ _ _ c.all.ensures.ran (YieldsList-from_range 0 args.n args.n refl (omega arith))
+    (λ x b q k. search (rules, tests))
+    ∙ rw zero-add at (all_going args.steps args.count 0 args.n)

@@ -3,15 +3,9 @@ use Rattle.std.proofs.Common.{◌≡◌, ℕ, ◌≤◌, Bool, sym, ap, ◌∙�
 use native.Mathlib.Nat.{min-le_left, min-le_right}
 use borrow.Author.Tests.{not-false}
 use Rattle.parts.specs.declared.drawing.Drawing.TheVariants.{Block}
-use Rattle.runs.specs.Inner.{column_at, taken_map, taken_x}
+use Rattle.runs.specs.Inner.{column_at, taken_x}
 use Rattle.runs.proofs.PlaceLaws.{neither, spans_fewer}
 use Rattle.runs.proofs.stretches.block_length.Goals as goal
-
-pub returns-then-inside-on_map : goal.returns-then-inside-on_map
-returns-then-inside-on_map c = λ row e some. absurd (omega arith)
-
-pub returns-then-not-in_mask : goal.returns-then-not-in_mask
-returns-then-not-in_mask c = λ row e some. absurd (omega arith)
 
 at_most : {x y : ℕ} → x ≡ y → x ≤ y
 at_most e = omega arith
@@ -19,12 +13,11 @@ at_most e = omega arith
 pub returns : goal.returns
 returns c = λ row e some.
     let a = c.args in
-    let r = c.least-2.result in
-    let all = c.least-2.ensures in
-    let first : r ≤ c.least.result = rw all (min-le_left _ _) in
-    let second : r ≤ c.reach.result = rw all (min-le_right _ _) in
-    let allowed : c.least.result ≤ a.allowance = rw c.least.ensures (min-le_left _ _) in
-    let fewest : c.least.result ≤ c.rest.result = rw c.least.ensures (min-le_right _ _) in
+    let r = c.min.result in
+    let first : r ≤ c.min-left.result = rw c.min.ensures (min-le_left _ _) in
+    let second : r ≤ c.reach.result = rw c.min.ensures (min-le_right _ _) in
+    let allowed : c.min-left.result ≤ a.allowance = rw c.min-left.ensures (min-le_left _ _) in
+    let fewest : c.min-left.result ≤ c.rest.result = rw c.min-left.ensures (min-le_right _ _) in
     let ends = at_most c.rest.ensures.0 in
     let spans = c.reach.ensures (omega arith) in
     let free = neither a.inside _ c.if-inside-on_map.false in (
@@ -36,12 +29,8 @@ returns c = λ row e some.
         small = omega (arith, c.rest.ensures.1);
         on = sym c.on_map.ensures ∙ not-false _ free.1;
         inside = sym c.in_mask.ensures ∙ c.if-not-in_mask.false;
-        columns = spans_fewer a.plan.back (column_at a.setup a.pen) r c.reach.result a.plan.left a.plan.right second spans.0;
-        taken =
-            spans_fewer a.plan.back (taken_x a.setup a.plan.takes a.pen) r c.reach.result 0 (taken_map a.setup a.plan.takes).width second spans.1;
+        columns = spans_fewer a.plan.now.back (column_at a.setup a.pen) r c.reach.result a.plan.now.left a.plan.now.right second spans.0;
+        taken = spans_fewer a.plan.now.back (taken_x a.setup a.plan.now.takes a.pen) r c.reach.result 0 a.plan.now.map.width second spans.1;
       },
       omega arith,
     )
-
-pub reach-requires : goal.reach-requires
-reach-requires c = c.requires

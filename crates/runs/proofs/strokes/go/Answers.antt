@@ -18,16 +18,16 @@ use Rattle.runs.proofs.strokes.go.Goals as goal
 use Rattle.runs.proofs.strokes.go.Goals.{After-trace-gone, After-turns_of-turns}
 
 -- each pixel that is gone to lies in the memory
-held : (c : After-turns_of-turns) → let t = trail_from c.args.setup.brush.destination c.args.stroke c.args.x c.args.y in
+held : (c : After-turns_of-turns) → let t = trail_from c.args.job.now.setup.brush.destination c.args.stroke c.args.at.x c.args.at.y in
     (i : ℕ) → i ≤ c.count_of-count.result → turns_at t i ≤ c.turns_of-turns.result → place_at t.format t.base (number_at t i) < length c.args.memory.now
 held c i less turn =
     let a = c.args in
     let counted = c.count_of-count.ensures in
-    place_held a.setup a.pen a.stroke a.x a.y a.across a.down c.requires.0 _ c.requires.1 c.trail_of-trail.ensures.1 _ _ counted.1 counted.2
+    place_held a.job.now.setup a.pen a.stroke a.at.x a.at.y a.across a.down c.requires.0 _ c.requires.2 c.trail_of-trail.ensures.1 _ _ counted.1 counted.2
     counted.3 c.turns_of-turns.ensures.0 c.turns_of-turns.ensures.1 i less turn
 
 -- how far it was gone
-gone : (c : After-trace-gone) → let t = trail_from c.args.setup.brush.destination c.args.stroke c.args.x c.args.y in let n = c.trace-gone.result.done in
+gone : (c : After-trace-gone) → let t = trail_from c.args.job.now.setup.brush.destination c.args.stroke c.args.at.x c.args.at.y in let n = c.trace-gone.result.done in
     (n ≤ c.count_of-count.result) × (turns_at t n ≤ c.turns_of-turns.result) × (c.trace-gone.result.at ≡ number_at t n) × (c.trace-gone.result.e ≡ error_at t n)
 gone c =
     let e = c.trace-gone.ensures in
@@ -43,7 +43,7 @@ pub trace-gone-requires : goal.trace-gone-requires
 trace-gone-requires c =
     let a = c.args in
     rw c.trail_of-trail.ensures.0 (
-      rw c.requires.0.stroke (stroke_termed a.setup a.pen.e a.pen.drawing a.setup.brush.destination a.x a.y),
+      stroke_termed a.job.now.setup a.pen.e a.pen.drawing a.stroke a.job.now.setup.brush.destination a.at.x a.at.y c.requires.0.stroke,
       λ i less turn. held (goal.at.trace-gone-requires c).After-turns_of-turns i (omega arith) turn,
     )
 
@@ -56,11 +56,8 @@ pub error_on-requires : goal.error_on-requires
 error_on-requires c =
     let far = gone (goal.at.error_on-requires c).After-trace-gone in
     let a = c.args in
-    let small = stroke_termed a.setup a.pen.e a.pen.drawing a.setup.brush.destination a.x a.y in
-    rw far.3 (error_lt (trail_from a.setup.brush.destination a.stroke a.x a.y) _ (rw c.requires.0.stroke small.0))
-
-pub drawing_on-requires : goal.drawing_on-requires
-drawing_on-requires c = omega (arith, (gone (goal.at.drawing_on-requires c).After-trace-gone).0, c.count_of-count.ensures.1, c.requires.0.small)
+    let small = stroke_termed a.job.now.setup a.pen.e a.pen.drawing a.stroke a.job.now.setup.brush.destination a.at.x a.at.y c.requires.0.stroke in
+    rw far.3 (error_lt (trail_from a.job.now.setup.brush.destination a.stroke a.at.x a.at.y) _ small.0)
 
 -- what ends says
 ends_at : (c : After-trace-gone) → let n = c.trace-gone.result.done in let a = c.args in
@@ -69,9 +66,6 @@ ends_at c ends =
     let n = c.trace-gone.result.done in
     let all = eqb n c.args.stroke.steps in
     (eqb-true _ _ (and_left all _ ends), ltb-true _ _ (and_right all _ ends))
-
-pub done_by-requires : goal.done_by-requires
-done_by-requires c ends = omega (arith, c.ranges.allowance, (ends_at (goal.at.done_by-requires c).After-trace-gone ends).1)
 
 -- no more are done than are allowed
 allowed : (c : After-trace-gone) → let n = c.trace-gone.result.done in let a = c.args in
@@ -85,12 +79,13 @@ allowed c =
 pub returns : goal.returns
 returns c = (
   omega (arith, c.done_by.ensures, allowed (goal.at.returns c).After-trace-gone),
-  λ blends inks alike.
-      let a = c.args in
+  let a = c.args in
       let h = c.requires in
-      let s = a.setup in
+      let s = a.job.now.setup in
+      let blends = a.job.now.blends in
+      let inks = a.job.now.inked h.2.depth in
       let map = s.brush.destination in
-      let t = trail_from a.setup.brush.destination a.stroke a.x a.y in
+      let t = trail_from a.job.now.setup.brush.destination a.stroke a.at.x a.at.y in
       let n = c.trace-gone.result.done in
       let ends = eqb n a.stroke.steps && ltb n a.allowance in
       let far = gone (goal.at.returns c).After-trace-gone in
@@ -99,25 +94,16 @@ returns c = (
       let made : ℕ → ℕ = blended (bits_of map.format) blends.foreground 0 in
       let op = blended (bits_of map.format) blends.foreground in
       let same = c.trail_of-trail.ensures.0 in
-      let stroke = is_stroke_lem s a.pen a.stroke a.x a.y a.across a.down h.0 _ h.1 c.trail_of-trail.ensures.1 _ _ counted.1 counted.2 counted.3 turning.0 turning.1 in
+      let stroke = is_stroke_lem s a.pen a.stroke a.at.x a.at.y a.across a.down h.0 _ h.2 c.trail_of-trail.ensures.1 _ _ counted.1 counted.2 counted.3 turning.0 turning.1 in
       let pens = c.pen_at.ensures
       ∙ (λ j. pen_at (circle 2048 8192 (pos (far.2 j % (map.width + 1)))) (circle 2048 8192 (pos (far.2 j / (map.width + 1))))
       ((to_z-of_z w32 c.error_on.result (record { sfits = c.error_on.type_inv }) ∙ c.error_on.ensures ∙ ap (λ (e : ℕ). error_of a.pen.drawing e a.pen.e) far.3) j) (c.drawing_on.ensures stroke j) a.pen) in
-      let alike' = subst (λ (t : Trail). Alike t.format op (wholly a.whole)) (sym same) alike in
+      let alike' = subst (λ (t : Trail). Alike t.format op (wholly a.whole)) (sym same) h.1 in
       let drew = c.trace-gone.ensures.4 op alike' ∙ (λ j. traced made (same j) n a.memory.now) in
       let memory = c.end.ensures op alike'
       ∙ (λ j. choose ends (with_pixel_no (same j).format (same j).base (far.2 j) (made (pixel_no (same j).format (same j).base (far.2 j) (drew j))) (drew j)) (drew j)) in
       ap (λ (k : ℕ). after s k (begun a.pen a.memory.now)) c.done_by.ensures
-      ∙ stroke_done s a.pen a.stroke a.x a.y a.across a.down h.0 _ h.1 c.trail_of-trail.ensures.1 _ _ counted.1 counted.2 counted.3 turning.0 turning.1
+      ∙ stroke_done s a.pen a.stroke a.at.x a.at.y a.across a.down h.0 _ h.2 c.trail_of-trail.ensures.1 _ _ counted.1 counted.2 counted.3 turning.0 turning.1
       blends inks a.memory.now ends n far.0 far.1 (λ e. (ends_at (goal.at.returns c).After-trace-gone e).0)
       ∙ (λ j. record { pen = sym pens j; memory = sym memory j; done = sym c.done_by.ensures j }),
 )
-
-pub count_of-count-requires : goal.count_of-count-requires
-count_of-count-requires c = c.requires.0.some
-
-pub turns_of-turns-requires : goal.turns_of-turns-requires
-turns_of-turns-requires c = c.requires.0.some
-
-pub shape_of-memory : goal.shape_of-memory
-shape_of-memory c = c.end.auto.memory ∙ c.trace-gone.auto.memory

@@ -5,19 +5,13 @@ use Rattle.runs.proofs.RunLaws.{reached, after_done, done_some}
 use Rattle.runs.proofs.turns.turn.Goals as goal
 use Rattle.runs.proofs.turns.turn.Goals.{After-draw_alike-ran}
 
-pub draw_alike-ran-requires : goal.draw_alike-ran-requires
-draw_alike-ran-requires c = (c.requires.0, c.requires.3)
-
 -- what the positions that are alike leave
 alike : (c : After-draw_alike-ran) → let a = c.args in let r = c.draw_alike-ran.result in
-    after a.setup r.done (begun a.pen a.memory.now) ≡ record { pen = r.pen; memory = c.draw_alike-ran.new.memory; done = r.done }
-alike c = let h = c.requires in c.draw_alike-ran.ensures.1 c.args.blends h.2 h.1
+    after a.job.now.setup r.done (begun a.pen a.memory.now) ≡ record { pen = r.pen; memory = c.draw_alike-ran.new.memory; done = r.done }
+alike c = c.draw_alike-ran.ensures.1
 
 pub returns-then-ran-gt0 : goal.returns-then-ran-gt0
 returns-then-ran-gt0 c = (c.if-ran-gt0.true, c.draw_alike-ran.ensures.0, alike (goal.at.returns-then-ran-gt0 c).After-draw_alike-ran)
-
-pub run_singly-requires : goal.run_singly-requires
-run_singly-requires c = let h = c.requires in (λ cut. h.2, λ going. rw c.draw_alike-ran.auto.memory h.3)
 
 pub returns : goal.returns
 unfolding after begun
@@ -29,19 +23,13 @@ returns c =
     let ran = c.run_singly.ensures in
     let allowed = c.alone.ensures in
     let none : c.draw_alike-ran.result.done ≡ 0 = omega (arith, c.if-ran-gt0.false) in
-    let same = ap (λ (k : ℕ). (after a.setup k (begun a.pen m)).memory) (sym none) ∙ ap (λ (r : Run). r.memory) (alike (goal.at.returns c).After-draw_alike-ran) in
-    let by : (k : ℕ) → after a.setup k (begun a.pen m) ≡ after a.setup k (begun a.pen c.draw_alike-ran.new.memory) = λ k. ap (λ (M : List ℕ). after a.setup k (begun a.pen M)) same in
+    let same = ap (λ (k : ℕ). (after a.job.now.setup k (begun a.pen m)).memory) (sym none) ∙ ap (λ (r : Run). r.memory) (alike (goal.at.returns c).After-draw_alike-ran) in
+    let by : (k : ℕ) → after a.job.now.setup k (begun a.pen m) ≡ after a.job.now.setup k (begun a.pen c.draw_alike-ran.new.memory) = λ k. ap (λ (M : List ℕ). after a.job.now.setup k (begun a.pen M)) same in
     let done = ran.1 ∙ sym (ap (λ (r : Run). r.done) (by n)) in (
-      rw done (done_some a.setup a.pen m n h.4 allowed.0),
-      omega (arith, done, allowed.1, (reached a.setup a.pen m n).0),
-      ap (λ (k : ℕ). after a.setup k (begun a.pen m)) done
-          ∙ after_done a.setup a.pen m n
+      rw done (done_some a.job.now.setup a.pen m n h.1 allowed.0),
+      omega (arith, done, allowed.1, (reached a.job.now.setup a.pen m n).0),
+      ap (λ (k : ℕ). after a.job.now.setup k (begun a.pen m)) done
+          ∙ after_done a.job.now.setup a.pen m n
           ∙ by n
           ∙ λ i. record { pen = sym ran.0 i; memory = sym ran.2 i; done = sym ran.1 i },
     )
-
-pub alone-requires : goal.alone-requires
-alone-requires c = c.requires.5
-
-pub shape_of-memory : goal.shape_of-memory
-shape_of-memory c = c.run_singly.auto.memory ∙ c.draw_alike-ran.auto.memory

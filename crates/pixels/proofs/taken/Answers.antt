@@ -1,8 +1,0 @@
--- `taken` is a field of the byte: a mask of n bits leaves the n low ones.
-use lib.Bits.{and_mask}
-use Rattle.numbers.specs.Fields.{field}
-use Rattle.pixels.proofs.taken.Goals as goal
-
-pub returns : goal.returns
-unfolding field
-returns c = rw (c.mask.ensures, and_mask)

@@ -1,7 +1,0 @@
--- `rows::sweeps::bytes_in` is the definition: as many pixels as a byte has are a power of two.
-use Rattle.std.proofs.Common.{◌/◌}
-use Rattle.rows.proofs.LaneLaws.{per_pow}
-use Rattle.rows.proofs.sweeps.bytes_in.Goals as goal
-
-pub returns : goal.returns
-returns c = λ i. c.args.count / per_pow c.args.format i

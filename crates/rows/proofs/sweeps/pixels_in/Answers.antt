@@ -1,7 +1,0 @@
--- `rows::sweeps::pixels_in` is the definition: as many pixels as a byte has are a power of two, and all have room.
-use Rattle.std.proofs.Common.{◌*◌, ◌%◌, ◌^◌, ◌∙◌, mod-eq_of_lt}
-use Rattle.rows.proofs.LaneLaws.{per_pow}
-use Rattle.rows.proofs.sweeps.pixels_in.Goals as goal
-
-pub returns : goal.returns
-returns c = (λ i. c.args.bytes * per_pow c.args.format i % 2 ^ 32) ∙ mod-eq_of_lt c.requires
