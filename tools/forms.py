@@ -59,6 +59,14 @@ def parameters(signature):
     return [re.sub(r'\s+', ' ', p).strip() for p in out + [part] if p.strip()]
 
 
+def shared(groups, least, kind):
+    """The members of each group that has so many."""
+    for found in groups.values():
+        if len(found) >= least:
+            for name, number, text in found:
+                yield name, number, kind % len(found), text
+
+
 def point1():
     """Enums of a crate's own; flags in structs; kinds and refusals as numbers."""
     for name, number, line in lines():
@@ -79,20 +87,14 @@ def point2():
     for name, number, function, signature, body in functions():
         if len(shape(body)) > 30:
             groups[shape(body)].append((name, number, function))
-    for text, found in groups.items():
-        if len(found) > 1:
-            for name, number, function in found:
-                yield name, number, 'twin of %d' % len(found), function
+    yield from shared(groups, 2, 'twin of %d')
     types = collections.defaultdict(list)
     for name in FILES:
         text = open(name).read()
         for found in re.finditer(r'^(?:pub(?:\(crate\))? )?struct (\w+)[^{;(]*\{(.*?)^\}', text, re.M | re.S):
             fields = tuple(re.findall(r'(\w+): ', found.group(2)))
             types[fields].append((name, text.count('\n', 0, found.start()) + 1, found.group(1)))
-    for fields, found in types.items():
-        if len(found) > 1:
-            for name, number, struct in found:
-                yield name, number, 'type with the fields of %d' % len(found), struct
+    yield from shared(types, 2, 'type with the fields of %d')
 
 
 def point3():
@@ -138,10 +140,8 @@ def point5():
             for j in range(i + 1, len(taken)):
                 for k in range(j + 1, len(taken)):
                     together[crate, '; '.join((taken[i], taken[j], taken[k]))].add((name, number, function))
-    for (crate, fact), found in facts.items():
-        if len(found) > 2:
-            for name, number, function in sorted(found):
-                yield name, number, 'a fact of %d' % len(found), function + ': ' + fact
+    yield from shared({(crate, fact): sorted((name, number, function + ': ' + fact) for name, number, function in found) for (crate, fact), found in facts.items()}, 3,
+        'a fact of %d')
     for (crate, parts), found in together.items():
         if len(found) > 2:
             yield min(found)[0], min(found)[1], 'together in %d' % len(found), parts
