@@ -20,7 +20,7 @@ use Rattle.moves.proofs.CircledLaws.{OnCircle, circled_on}
 use Rattle.moves.proofs.Counters.{drawing_moved}
 use Rattle.places.specs.declared.Mode.TheVariants.{AreaBoundary}
 use Rattle.places.specs.declared.Setup.{Setup}
-use Rattle.places.specs.Places.{is_first, is_last, nulled_by, is_nulled}
+use Rattle.places.specs.Places.{named_mode, nulled_by, is_nulled}
 use Rattle.areas.specs.Crossings.{pen_after, row_after, below, same_place, crosses}
 use Rattle.areas.specs.Outlines.{at_start}
 use Rattle.areas.proofs.Rows.{goes_down, down_seen, up_seen}
@@ -90,7 +90,7 @@ module _ (s : Travel) (pen : Pen) (bounds : Bounding s) (write : s.course.read �
 
 -- 02, 102: of a line or codes of a write form the mode keeps back exactly the positions that do not cross; of a read form, whose destination stays in its
 -- row, nothing is said here
-pub boundary_drawn : (s : Setup) (pen : Pen) → s.brush.flow.mode ≡ AreaBoundary → Bounding s.travel → s.travel.course.read ≡ false
+pub boundary_drawn : (s : Setup) (pen : Pen) → named_mode s.brush.flow.mode ≡ AreaBoundary → Bounding s.travel → s.travel.course.read ≡ false
     → at_start pen.drawing ≡ true → OnCircle pen.pointers.destination.y
     → (n : ℕ) → unfinished (pen_after s.travel n pen).drawing ≡ true
     → is_nulled s (pen_after s.travel n pen) ≡ not (crosses s.travel pen n)

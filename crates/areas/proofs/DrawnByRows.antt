@@ -10,8 +10,8 @@ use Rattle.rules.specs.Operations.{function_of, drawing_mode, is_fill, is_block,
 use Rattle.parts.specs.declared.shapes.Point.{Point}
 use Rattle.moves.specs.declared.Turn.{Turn}
 use Rattle.moves.specs.Decoded.{straight_of, course_of, travel_of}
-use Rattle.places.specs.Decoded.{named_mode, flow_of, brush_of}
-use Rattle.places.specs.Places.{is_nulled}
+use Rattle.places.specs.Decoded.{flow_of, brush_of}
+use Rattle.places.specs.Places.{named_mode, is_nulled}
 use Rattle.coprocessor.specs.declared.Coprocessor.{Coprocessor}
 use Rattle.coprocessor.specs.Valid.{valid_of}
 use Rattle.coprocessor.specs.Runs.{setup_of, pen_of}

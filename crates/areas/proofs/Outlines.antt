@@ -15,7 +15,8 @@ use Rattle.parts.specs.Drawings.{unfinished}
 use Rattle.rules.specs.Operations.{function_of, is_map, is_fill, is_block, mode_of, uses_pattern}
 use Rattle.mixes.specs.Mixes.{depth_of}
 use Rattle.moves.specs.Decoded.{course_of, travel_of}
-use Rattle.places.specs.Decoded.{named_mode, named_mask, edge_of, flow_of, brush_of}
+use Rattle.places.specs.Places.{named_mask, named_mode}
+use Rattle.places.specs.Decoded.{edge_of, flow_of, brush_of}
 use Rattle.coprocessor.specs.declared.Coprocessor.{Coprocessor}
 use Rattle.coprocessor.specs.Runs.{setup_of, pen_of, ran_of, whole_of, run_memory}
 use Rattle.coprocessor.proofs.KnownRuns.{destination_on, destination_held, run_memory_lem, run_length}

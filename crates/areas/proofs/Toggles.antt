@@ -23,7 +23,7 @@ use Rattle.moves.specs.declared.Pen.{Pen}
 use Rattle.places.specs.declared.MaskMode.TheVariants.{Disabled}
 use Rattle.places.specs.declared.Mode.TheVariants.{AreaBoundary}
 use Rattle.places.specs.declared.Setup.{Setup}
-use Rattle.places.specs.Places.{is_within, column_of, place_x, on_map, is_move, is_nulled}
+use Rattle.places.specs.Places.{is_within, column_of, place_x, on_map, named_mask, is_move, named_mode, is_nulled}
 use Rattle.position.specs.declared.Fate.TheVariants.{Moved, Nulled, OutsideMap, Painted}
 use Rattle.position.specs.Fates.{destination_pixel, fate_of}
 use Rattle.position.specs.Drawn.{is_foreground, ink_of, picked, mixed_pixel, drawn_by, drawn}
@@ -39,10 +39,10 @@ pub record Toggles (s : Setup) : Type 0 where
   pub bits : bits_of s.brush.destination.format ≡ 1
   pub depth : s.brush.depth.bits ≡ 1
   pub write : s.travel.course.read ≡ false
-  pub mode : s.brush.flow.mode ≡ AreaBoundary
+  pub mode : named_mode s.brush.flow.mode ≡ AreaBoundary
   pub bounds : Bounding s.travel
   pub edge : s.brush.edge ≡ pos 0
-  pub mask : s.brush.mask.mode ≡ Disabled
+  pub mask : named_mask s.brush.mask.mode ≡ Disabled
   pub pattern : s.travel.pattern.used ≡ false
   pub derived : s.brush.flow.derived ≡ false
   pub source : s.brush.flow.foreground ≡ false

@@ -18,8 +18,8 @@ use Rattle.rules.specs.Going.{pointers_hold}
 use Rattle.rules.specs.Totals.{total_of}
 use Rattle.rules.proofs.RefusalLaws.{accepted_holds}
 use Rattle.moves.specs.Decoded.{course_of, travel_of}
-use Rattle.places.specs.Places.{is_within, column_of}
-use Rattle.places.specs.Decoded.{named_mask, edge_of, flow_of, brush_of}
+use Rattle.places.specs.Places.{is_within, column_of, named_mask}
+use Rattle.places.specs.Decoded.{edge_of, flow_of, brush_of}
 use Rattle.position.proofs.Writing.{drawn_bytes}
 use Rattle.runs.specs.Runs.{Run, begun, positioned}
 use Rattle.runs.proofs.RunLaws.{kept_after, bytes_after, pixels_after}

@@ -7,7 +7,6 @@ use mathlib.Core.Logic.{⊎_elim}
 use Prim.Native.Nat.{ℕ, zero, suc, ◌+◌, ◌-◌, ◌*◌, ◌/◌, ◌%◌, ◌^◌, ◌≤◌, ◌<◌}
 use native.Mathlib.Nat.{mod-lt, mod-eq_of_lt, div-add-mod', div-lt_iff_lt-mul}
 use native.Mathlib.Omega.{arith}
-use lib.Dec.{eqb}
 use lib.IntN.{ℤ, pos, negsuc}
 use lib.ListN.{length}
 use lib.Signed.{lt_z}
@@ -34,7 +33,7 @@ use Rattle.moves.proofs.TurnLaws.{turned_in}
 use Rattle.moves.proofs.CircledLaws.{OnCircle, circled_on, circled_apart}
 use Rattle.places.specs.declared.MaskMode.TheVariants.{Disabled}
 use Rattle.places.specs.declared.Setup.{Setup}
-use Rattle.places.specs.Places.{is_within, column_of, place_x, on_map, is_move, is_first, is_last, on_boundary, nulled_by, is_nulled}
+use Rattle.places.specs.Places.{is_within, column_of, place_x, on_map, named_mask, is_move, is_first, is_last, on_boundary, named_mode, nulled_by, is_nulled}
 use Rattle.places.proofs.Columns.{within_column, within_place}
 use Rattle.places.proofs.ModeLaws.{none_left}
 use Rattle.position.specs.declared.Fate.TheVariants.{Painted}
@@ -49,7 +48,7 @@ use Rattle.copies.proofs.Positions.{Blocks, source_at, destination_at, At, on_po
 -- how a copy is set up
 pub record Copies (s : Setup) : Type 0 where
   pub edge : s.brush.edge ≡ negsuc 2047
-  pub mask : s.brush.mask.mode ≡ Disabled
+  pub mask : named_mask s.brush.mask.mode ≡ Disabled
   pub condition : s.brush.colours.compare.condition ≡ 4
   pub pattern : s.travel.pattern.used ≡ false
   pub derived : s.brush.flow.derived ≡ false
@@ -95,7 +94,7 @@ module _ (s : Setup) (k : Copies s) (memory : List ℕ) (pen : Pen) where
 
     whole : is_nulled s pen ≡ false
     unfolding is_nulled nulled_by is_first is_last on_boundary
-    whole = ap (nulled_by s pen.e) e ∙ none_left s.brush.flow.mode
+    whole = ap (nulled_by s pen.e) e ∙ none_left (named_mode s.brush.flow.mode)
 
     -- on the map it is painted
     painted : on_map s.brush pen ≡ true → fate_of s memory pen ≡ Painted

@@ -8,20 +8,8 @@ use Rattle.parts.specs.declared.shapes.Colours.{Colours}
 use Rattle.parts.specs.declared.shapes.Figure.{Figure}
 use Rattle.rules.specs.Operations.{background_source, foreground_source, destination_field, pattern_field, mask_mode, mode_of, is_fill}
 use Rattle.rules.specs.Maps.{map_at}
-use Rattle.places.specs.declared.MaskMode.{MaskMode}
-use Rattle.places.specs.declared.MaskMode.TheVariants.{Disabled, Boundary, Enabled}
-use Rattle.places.specs.declared.Mode.{Mode}
-use Rattle.places.specs.declared.Mode.TheVariants.{AllPixels, FirstNull, LastNull, AreaBoundary}
 use Rattle.places.specs.declared.Flow.{Flow}
 use Rattle.places.specs.declared.Brush.{Brush}
-
--- 003, Pixel Operations Register: the drawing mode: 00 draws all pixels, 01 first null, 10 last null, 11 an area boundary
-abbrev pub named_mode : ℕ → Mode
-named_mode number = choose (eqb number 1) FirstNull (choose (eqb number 2) LastNull (choose (eqb number 3) AreaBoundary AllPixels))
-
--- 003, Pixel Operations Register: the mask mode: 00 disabled, 01 the boundary alone, 10 enabled; 11, which a start refuses, bounds
-abbrev pub named_mask : ℕ → MaskMode
-named_mask number = choose (eqb number 0) Disabled (choose (eqb number 2) Enabled Boundary)
 
 -- 003, Area Outline Scissoring (lines 2031 to 2033); docs/DIFFERENCES.md, D5: the lowest X that a destination counts as: column 0
 -- where an area boundary is drawn, and otherwise any
@@ -37,7 +25,7 @@ flow_of operations =
       foreground = eqb (foreground_source operations) 2;
       background = eqb (background_source operations) 2;
       fills = is_fill operations;
-      mode = named_mode (mode_of operations);
+      mode = mode_of operations;
     }
 
 -- 01, Registers, 7C: the field chooses the destination's map, the mask's is map 0; the plane mask counts by the destination's bits
@@ -45,7 +33,7 @@ unfoldable pub brush_of : Figure → List Map → Colours → Brush
 brush_of f maps colours =
     record {
       destination = map_at maps (destination_field f.operations);
-      mask = record { mode = named_mask (mask_mode f.operations); map = map_at maps 0; origin = f.origin };
+      mask = record { mode = mask_mode f.operations; map = map_at maps 0; origin = f.origin };
       edge = edge_of f.operations;
       flow = flow_of f.operations;
       colours = colours;

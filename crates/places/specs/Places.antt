@@ -44,6 +44,11 @@ mask_x b pen = place_x b pen -ℤ pos b.mask.origin.x
 unfoldable pub mask_y : Brush → Pen → ℤ
 mask_y b pen = pen.pointers.destination.y -ℤ pos b.mask.origin.y
 
+-- 003, Pixel Operations Register: the mask mode of a number: 00 disabled, 01 the boundary alone, 10 enabled; 11, which a start
+-- refuses, and any above are as 01
+abbrev pub named_mask : ℕ → MaskMode
+named_mask number = choose (eqb number 0) Disabled (choose (eqb number 2) Enabled Boundary)
+
 -- 01, One position: mode 00, in which there is no mask boundary
 abbrev pub is_disabled : MaskMode → Bool
 is_disabled Disabled = true
@@ -59,7 +64,7 @@ is_enabled Enabled = true
 -- 01, One position: inside the mask boundary, in modes 01 and 10
 unfoldable pub in_mask : Brush → Pen → Bool
 in_mask b pen =
-    is_disabled b.mask.mode || (is_within b.mask.map.width (mask_x b pen) && is_within b.mask.map.height (mask_y b pen))
+    is_disabled (named_mask b.mask.mode) || (is_within b.mask.map.width (mask_x b pen) && is_within b.mask.map.height (mask_y b pen))
 
 -- 01, The functions, Codes: bit 4 draws; a code without it only moves
 unfoldable pub is_move : Travel → Drawing → Bool
@@ -99,6 +104,11 @@ on_boundary t e (Codes count code done) =
     of_run (code_step (code_at t.figure.steps count code)).y (not (is_first (Codes count code done))) (not (is_last t (Codes count code done)))
 on_boundary t e (Block inside column row) = true
 
+-- 003, Pixel Operations Register: the drawing mode of a number: 00 draws all pixels, 01 first null, 10 last null, 11 an area boundary;
+-- any above are as 00
+abbrev pub named_mode : ℕ → Mode
+named_mode number = choose (eqb number 1) FirstNull (choose (eqb number 2) LastNull (choose (eqb number 3) AreaBoundary AllPixels))
+
 -- 01, The functions: mode 00, which draws all pixels
 abbrev pub is_all : Mode → Bool
 is_all AllPixels = true
@@ -115,7 +125,7 @@ left_out AreaBoundary first last bounds = not bounds
 
 -- 01, The functions: first null (mode 01), last null (mode 10); 02, 102: area boundary (mode 11); for each line and each code
 unfoldable pub nulled_by : Setup → ℤ → Drawing → Bool
-nulled_by s e d = left_out s.brush.flow.mode (is_first d) (is_last s.travel d) (on_boundary s.travel e d)
+nulled_by s e d = left_out (named_mode s.brush.flow.mode) (is_first d) (is_last s.travel d) (on_boundary s.travel e d)
 
 -- 01, One position: a nulled pixel, at the pen's E and drawing
 unfoldable pub is_nulled : Setup → Pen → Bool

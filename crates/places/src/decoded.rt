@@ -1,5 +1,6 @@
 ghost use Rattle.std.specs.Prelude.{◌≡◌};
-ghost use Rattle.places.specs.Decoded.{named_mode, named_mask, edge_of, flow_of, brush_of};
+ghost use Rattle.places.specs.Places.{named_mode, named_mask};
+ghost use Rattle.places.specs.Decoded.{edge_of, flow_of, brush_of};
 
 use crate::{Brush, Flow, Mask, MaskMode, Mode};
 use mixes::depth_of;
@@ -11,8 +12,8 @@ use rules::operations::{
     pattern_field,
 };
 
-// The drawing mode of a number: the register's two bits, 0 for a block.
-fn named_mode(number: u32) -> Mode
+// The drawing mode that a number names; one that the register's two bits do not hold draws all pixels, as 0 does.
+pub fn named_mode(number: u8) -> Mode
     ensures { result ≡ named_mode number }
 {
     match number {
@@ -23,8 +24,8 @@ fn named_mode(number: u32) -> Mode
     }
 }
 
-// The mask mode of a number; a start refuses 3, and where a record holds it there is a boundary alone.
-fn named_mask(number: u32) -> MaskMode
+// The mask mode that a number names; a start refuses 3, and where a record holds it, as at any above, there is a boundary alone.
+pub fn named_mask(number: u8) -> MaskMode
     ensures { result ≡ named_mask number }
 {
     match number {
@@ -50,7 +51,7 @@ fn flow_of(operations: u32) -> Flow
         foreground: foreground_source(operations) == 2,
         background: background_source(operations) == 2,
         fills: is_fill(operations),
-        mode: named_mode(mode_of(operations)),
+        mode: mode_of(operations) as u8,
     }
 }
 
@@ -63,7 +64,7 @@ pub fn brush_of(figure: Figure, maps: [Map; 4], colours: Colours) -> Brush
     Brush {
         destination,
         mask: Mask {
-            mode: named_mask(mask_mode(operations)),
+            mode: mask_mode(operations) as u8,
             map: maps[0],
             origin: figure.origin,
         },

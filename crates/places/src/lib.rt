@@ -18,10 +18,10 @@ pub enum MaskMode {
     Enabled,
 }
 
-// The mask: its mode, its map, and where its map begins on the destination.
+// The mask: its mode's number, its map, and where its map begins on the destination.
 #[derive(Clone, Copy)]
 pub struct Mask {
-    pub mode: MaskMode,
+    pub mode: u8,
     pub map: Map,
     pub origin: Point<u16>,
 }
@@ -36,14 +36,14 @@ pub enum Mode {
 }
 
 // Where a drawing's pixels come from: whether the pattern is made from the source, which of foreground and background take
-// the source pixel, whether an area is filled, and the drawing mode.
+// the source pixel, whether an area is filled, and the drawing mode's number.
 #[derive(Clone, Copy)]
 pub struct Flow {
     pub derived: bool,
     pub foreground: bool,
     pub background: bool,
     pub fills: bool,
-    pub mode: Mode,
+    pub mode: u8,
 }
 
 // What a position needs beside its moves, which a drawing does not change; `edge` is the lowest X that its destination counts as.

@@ -7,6 +7,7 @@ ghost use Rattle.parts.specs.declared.drawing.Drawing.TheVariants.{Line, Codes};
 ghost use Rattle.places.specs.Places.{of_run, on_boundary, nulled_by};
 ghost use Rattle.places.specs.Inner.{code_in, are_codes, moves_by};
 
+use crate::decoded::named_mode;
 use crate::{Mode, Setup};
 use moves::steps::{code_step, line_step, moves_row};
 use moves::{Travel, Turn};
@@ -39,7 +40,7 @@ fn line_bounds(travel: Travel, e: i32, rose: bool, done: u16) -> bool
 fn line_nulled(setup: Setup, e: i32, rose: bool, done: u16) -> bool
     ensures { result ≡ nulled_by setup e (Line rose done) }
 {
-    match setup.brush.flow.mode {
+    match named_mode(setup.brush.flow.mode) {
         Mode::AllPixels => false,
         Mode::FirstNull => done == 0,
         Mode::LastNull => done == setup.travel.figure.dimensions.x,
@@ -59,7 +60,7 @@ fn code_nulled(setup: Setup, code: u8, done: u16) -> bool
     ensures { (e : ℤ) (count i : ℕ) → code ≡ code_at setup.travel.figure.steps count i → result ≡ nulled_by setup e (Codes count i done) }
 {
     let last = done == steps_of(code);
-    match setup.brush.flow.mode {
+    match named_mode(setup.brush.flow.mode) {
         Mode::AllPixels => false,
         Mode::FirstNull => done == 0,
         Mode::LastNull => last,

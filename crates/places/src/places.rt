@@ -3,6 +3,7 @@ ghost use Rattle.std.specs.Int.Signed.{lt_z};
 ghost use Rattle.numbers.specs.Choose.{choose};
 ghost use Rattle.places.specs.Places.{is_within, column_of, place_x, mask_x, mask_y, on_map, in_mask};
 
+use crate::decoded::named_mask;
 use crate::{Brush, MaskMode};
 use moves::Pen;
 use parts::shapes::Point;
@@ -69,7 +70,7 @@ pub fn on_map(brush: Brush, pen: Pen) -> bool
 pub fn in_mask(brush: Brush, pen: Pen) -> bool
     ensures { result ≡ in_mask brush pen }
 {
-    brush.mask.mode == MaskMode::Disabled
+    named_mask(brush.mask.mode) == MaskMode::Disabled
         || (is_within(
             brush.mask.origin.x,
             brush.mask.map.width,

@@ -5,14 +5,13 @@ use mathlib.Core.List.{List, ◌++◌}
 use Prim.Native.Nat.{ℕ}
 use lib.ListN.{length}
 use lib.Dec.{eqb}
-use borrow.Author.Tests.{eqb-true}
 use Rattle.numbers.specs.Choose.{choose}
 use Rattle.pixels.proofs.Pixels.{pixel_append, put_append}
 use Rattle.parts.specs.Drawings.{inside_of, with_inside}
 use Rattle.moves.specs.declared.Pen.{Pen}
 use Rattle.moves.specs.Moves.{pen_with}
 use Rattle.places.specs.declared.Setup.{Setup}
-use Rattle.places.specs.Places.{on_map, in_mask, is_enabled, is_move, is_nulled}
+use Rattle.places.specs.Places.{on_map, named_mask, is_enabled, in_mask, is_move, is_nulled}
 use Rattle.places.proofs.ModeLaws.{enabled_lem}
 use Rattle.position.specs.Fates.{destination_pixel, on_zero, is_compared, fate_of}
 use Rattle.position.specs.Drawn.{source_pixel, is_one, inside_at, crossed, is_foreground, ink_of, picked, mixed_pixel, drawn}
@@ -72,8 +71,8 @@ module _ (s : Setup) (memory rest : List ℕ) (pen : Pen) (h : Within s (length 
     zero_behind : on_zero s.brush (memory ++ rest) pen ≡ on_zero s.brush memory pen
     unfolding on_zero
     zero_behind =
-        asked_only (is_enabled s.brush.mask.mode) _ _
-        (λ used. ap (λ (n : ℕ). eqb n 0) (pixel_append memory s.brush.mask.map _ _ rest (h.mask on inside (enabled_lem s.brush.mask.mode used))))
+        asked_only (is_enabled (named_mask s.brush.mask.mode)) _ _
+        (λ used. ap (λ (n : ℕ). eqb n 0) (pixel_append memory s.brush.mask.map _ _ rest (h.mask on inside (enabled_lem _ used))))
 
     destination_behind : destination_pixel s.brush (memory ++ rest) pen ≡ destination_pixel s.brush memory pen
     unfolding destination_pixel

@@ -16,7 +16,6 @@ use Rattle.parts.specs.declared.drawing.Drawing.TheVariants.{Line, Codes}
 use Rattle.rules.specs.Codes.{code_at}
 use Rattle.moves.specs.declared.Turn.TheVariants.{Stay, Forth}
 use Rattle.moves.specs.declared.Pen.{Pen}
-use Rattle.places.specs.Decoded.{named_mode, named_mask}
 use Rattle.places.specs.declared.Setup.{Setup}
 use Rattle.places.specs.Places.{is_within, column_of, place_x, on_map, mask_x, mask_y, in_mask, is_move, is_first, is_last, nulled_by, is_nulled}
 use Rattle.position.specs.Fates.{destination_pixel, on_zero, is_compared, fate_of}
@@ -43,9 +42,9 @@ setup derived mask mode condition =
       };
       brush = record {
         destination = row;
-        mask = record { mode = named_mask mask; map = record { base = 0; width = 1; height = 0; format = 0 }; origin = record { x = 2; y = 0 } };
+        mask = record { mode = mask; map = record { base = 0; width = 1; height = 0; format = 0 }; origin = record { x = 2; y = 0 } };
         edge = negsuc 2047;
-        flow = record { derived = derived; foreground = false; background = false; fills = false; mode = named_mode mode };
+        flow = record { derived = derived; foreground = false; background = false; fills = false; mode = mode };
         colours = record {
           foreground = record { mix = 3; colour = 0xAA };
           background = record { mix = 3; colour = 0xBB };

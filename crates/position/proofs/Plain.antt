@@ -8,17 +8,17 @@ use Rattle.mixes.specs.Conditions.{holds_of, condition_holds}
 use Rattle.moves.specs.declared.Pen.{Pen}
 use Rattle.places.specs.declared.MaskMode.TheVariants.{Disabled}
 use Rattle.places.specs.declared.Setup.{Setup}
-use Rattle.places.specs.Places.{in_mask}
+use Rattle.places.specs.Places.{named_mask, in_mask}
 use Rattle.position.specs.Fates.{on_zero, is_compared}
 use Rattle.position.specs.Drawn.{is_foreground, ink_of}
 
 module _ (s : Setup) (memory : List ℕ) (pen : Pen) where
   -- without a mask there is no boundary, and no pixel of it is 0
-  pub unbounded : s.brush.mask.mode ≡ Disabled → in_mask s.brush pen ≡ true
+  pub unbounded : named_mask s.brush.mask.mode ≡ Disabled → in_mask s.brush pen ≡ true
   unfolding in_mask
   unbounded e = rw e
 
-  pub unmasked : s.brush.mask.mode ≡ Disabled → on_zero s.brush memory pen ≡ false
+  pub unmasked : named_mask s.brush.mask.mode ≡ Disabled → on_zero s.brush memory pen ≡ false
   unfolding on_zero
   unmasked e = rw e
 

@@ -4,7 +4,6 @@ use mathlib.Core.Bool.{Bool, true, false, ◌&&◌, ◌||◌, and-eq-true_iff, f
 use mathlib.Core.List.{List}
 use Prim.Native.Nat.{ℕ, ◌+◌, ◌≤◌, ◌<◌}
 use native.Mathlib.Omega.{arith}
-use lib.Dec.{eqb}
 use borrow.Author.Tests.{leb-true}
 use Rattle.numbers.specs.Choose.{choose}
 use Rattle.numbers.proofs.Choices.{by_test, choose_true, choose_false}
@@ -23,7 +22,7 @@ use Rattle.places.specs.declared.MaskMode.{MaskMode}
 use Rattle.places.specs.declared.MaskMode.TheVariants.{Enabled}
 use Rattle.places.specs.declared.Flow.{Flow}
 use Rattle.places.specs.declared.Setup.{Setup}
-use Rattle.places.specs.Places.{is_within, mask_x, mask_y, in_mask, is_disabled}
+use Rattle.places.specs.Places.{is_within, mask_x, mask_y, named_mask, is_disabled, in_mask}
 use Rattle.position.specs.Drawn.{source_pixel, inside_at, crossed}
 use Rattle.position.specs.Within.{reads_source, Within}
 use Rattle.position.specs.Inner.{pattern_read, source_read, Safe}
@@ -98,10 +97,10 @@ masked mode b e h = rw e at h
 
 module _ (s : Setup) (size : ℕ) (pen : Pen) where
   -- in mode 10 the mask pixel inside the boundary is one of its map
-  mask_inside : in_mask s.brush pen ≡ true → s.brush.mask.mode ≡ Enabled
+  mask_inside : in_mask s.brush pen ≡ true → named_mask s.brush.mask.mode ≡ Enabled
       → (is_within s.brush.mask.map.width (mask_x s.brush pen) ≡ true) × (is_within s.brush.mask.map.height (mask_y s.brush pen) ≡ true)
   unfolding is_within mask_x mask_y in_mask
-  mask_inside inside used = (and-eq-true_iff (is_within s.brush.mask.map.width (mask_x s.brush pen)) _).0 (masked s.brush.mask.mode _ used inside)
+  mask_inside inside used = (and-eq-true_iff (is_within s.brush.mask.map.width (mask_x s.brush pen)) _).0 (masked (named_mask s.brush.mask.mode) _ used inside)
 
   pub safe_within : Safe s size pen → Within s size pen
   safe_within h =

@@ -6,7 +6,7 @@ use Rattle.mixes.specs.Conditions.{condition_holds}
 use Rattle.moves.specs.declared.Pen.{Pen}
 use Rattle.places.specs.declared.Brush.{Brush}
 use Rattle.places.specs.declared.Setup.{Setup}
-use Rattle.places.specs.Places.{column_of, place_x, on_map, mask_x, mask_y, in_mask, is_enabled, is_move, is_nulled}
+use Rattle.places.specs.Places.{column_of, place_x, on_map, mask_x, mask_y, named_mask, is_enabled, in_mask, is_move, is_nulled}
 use Rattle.position.specs.declared.Fate.{Fate}
 use Rattle.position.specs.declared.Fate.TheVariants.{Moved, Nulled, OutsideMap, OutsideMask, MaskZero, Compared, Painted}
 
@@ -17,7 +17,7 @@ destination_pixel b memory pen = pixel_at memory b.destination (column_of (place
 -- 01, One position: a 0 mask pixel, in mode 10
 unfoldable pub on_zero : Brush → List ℕ → Pen → Bool
 on_zero b memory pen =
-    is_enabled b.mask.mode && eqb (pixel_at memory b.mask.map (column_of (mask_x b pen)) (column_of (mask_y b pen))) 0
+    is_enabled (named_mask b.mask.mode) && eqb (pixel_at memory b.mask.map (column_of (mask_x b pen)) (column_of (mask_y b pen))) 0
 
 -- 01, One position: the compare condition is true of the destination
 unfoldable pub is_compared : Brush → List ℕ → Pen → Bool

@@ -13,7 +13,7 @@ use Rattle.moves.specs.Inner.{pointers_inside}
 use Rattle.places.specs.declared.MaskMode.TheVariants.{Enabled}
 use Rattle.places.specs.declared.Brush.{Brush}
 use Rattle.places.specs.declared.Setup.{Setup}
-use Rattle.places.specs.Places.{column_of, place_x, on_map, in_mask, is_move, is_nulled}
+use Rattle.places.specs.Places.{column_of, place_x, on_map, named_mask, in_mask, is_move, is_nulled}
 use Rattle.position.specs.declared.Fate.{Fate}
 use Rattle.position.specs.declared.Fate.TheVariants.{Moved, Nulled, OutsideMap, OutsideMask, MaskZero, Compared, Painted}
 use Rattle.position.specs.declared.Blends.{Blends}
@@ -90,7 +90,7 @@ InkBlends b blends =
 -- every used map ends within a memory of this size, and used source and pattern pointers lie in theirs: what every move keeps
 pub record Safe (s : Setup) (size : ℕ) (pen : Pen) : Type 0 where
   pub destination : end_holds size s.brush.destination ≡ true
-  pub mask : s.brush.mask.mode ≡ Enabled → end_holds size s.brush.mask.map ≡ true
+  pub mask : named_mask s.brush.mask.mode ≡ Enabled → end_holds size s.brush.mask.map ≡ true
   pub source : s.travel.source.used ≡ true → end_holds size s.travel.source.map ≡ true
   pub pattern : s.travel.pattern.used ≡ true → end_holds size s.travel.pattern.map ≡ true
   -- the source is read only where its map is used, and a fill uses a pattern map

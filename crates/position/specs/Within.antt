@@ -5,7 +5,7 @@ use Rattle.moves.specs.declared.Pen.{Pen}
 use Rattle.places.specs.declared.MaskMode.TheVariants.{Enabled}
 use Rattle.places.specs.declared.Flow.{Flow}
 use Rattle.places.specs.declared.Setup.{Setup}
-use Rattle.places.specs.Places.{column_of, place_x, on_map, mask_x, mask_y, in_mask}
+use Rattle.places.specs.Places.{column_of, place_x, on_map, mask_x, mask_y, named_mask, in_mask}
 
 -- 01, One position: the source pixel is read where a source field is 10 or the pattern is 9
 abbrev pub reads_source : Flow → Bool
@@ -16,7 +16,7 @@ reads_source flow = flow.foreground || flow.background || flow.derived
 pub record Within (s : Setup) (size : ℕ) (pen : Pen) : Type 0 where
   pub pattern : s.travel.pattern.used ≡ true → place_of s.travel.pattern.map pen.pointers.pattern.x pen.pointers.pattern.y < size
   pub source : reads_source s.brush.flow ≡ true → place_of s.travel.source.map pen.pointers.source.x pen.pointers.source.y < size
-  pub mask : on_map s.brush pen ≡ true → in_mask s.brush pen ≡ true → s.brush.mask.mode ≡ Enabled
+  pub mask : on_map s.brush pen ≡ true → in_mask s.brush pen ≡ true → named_mask s.brush.mask.mode ≡ Enabled
       → place_of s.brush.mask.map (column_of (mask_x s.brush pen)) (column_of (mask_y s.brush pen)) < size
   pub destination : on_map s.brush pen ≡ true → in_mask s.brush pen ≡ true
       → place_of s.brush.destination (column_of (place_x s.brush pen)) (column_of pen.pointers.destination.y) < size

@@ -15,6 +15,7 @@ use crate::{Fate, Pattern, Sight, Target};
 use moves::Pen;
 use parts::drawing::{Drawing, is_inside};
 use pixels::{Cell, find, get, value};
+use places::decoded::named_mask;
 use places::places::{destination_of, mask_of};
 use places::{Flow, MaskMode, Setup};
 
@@ -86,7 +87,7 @@ fn is_on_zero(setup: Setup, memory: &[u8], pen: Pen) -> bool
     requires { Within setup (length memory.now) pen × (on_map setup.brush pen ≡ true) × (in_mask setup.brush pen ≡ true) }
     ensures { result ≡ fates.on_zero setup.brush memory.now pen }
 {
-    if setup.brush.mask.mode != MaskMode::Enabled {
+    if named_mask(setup.brush.mask.mode) != MaskMode::Enabled {
         return false;
     }
     let at = mask_of(setup.brush, pen);

@@ -1,12 +1,12 @@
 -- A pixel within the edges of the map and the mask boundary lies on the map, and inside the boundary.
-use Rattle.std.proofs.Common.{◌≡◌, ℕ, ◌+◌, ◌≤◌, min, Bool, true, false, ◌&&◌, ◌||◌, eqb, ℤ, pos, ◌-ℤ◌, refl, ap, ◌∙◌, le_trans, le-leb}
+use Rattle.std.proofs.Common.{◌≡◌, ℕ, ◌+◌, ◌≤◌, min, Bool, true, false, ◌&&◌, ◌||◌, ℤ, pos, ◌-ℤ◌, refl, ap, ◌∙◌, le_trans, le-leb}
 use native.Mathlib.Nat.{min-le_left, min-le_right}
 use lib.Signed.{lt_z}
 use Rattle.numbers.specs.Choose.{choose}
 use Rattle.numbers.proofs.Choices.{choose_false, and_both}
 use Rattle.moves.specs.declared.Pen.{Pen}
 use Rattle.places.specs.declared.Brush.{Brush}
-use Rattle.places.specs.Places.{is_within, column_of, place_x, on_map, mask_x, mask_y, in_mask, is_disabled}
+use Rattle.places.specs.Places.{is_within, column_of, place_x, on_map, mask_x, mask_y, named_mask, is_disabled, in_mask}
 use Rattle.runs.specs.Inner.{left_edge, right_edge, top_edge, bottom_edge}
 use Rattle.runs.proofs.PlaceLaws.{edge_below, within_mask}
 
@@ -39,7 +39,7 @@ module _ (b : Brush) (q : Pen) (x y : ℕ) (edge : lt_z b.edge (pos 0) ≡ true)
 
   pub inside_in : in_mask b q ≡ true
   unfolding in_mask mask_x mask_y
-  inside_in = by (is_disabled b.mask.mode) columns.0 columns.1 rows.0 rows.1
+  inside_in = by (is_disabled (named_mask b.mask.mode)) columns.0 columns.1 rows.0 rows.1
     where
       by : (t : Bool) → choose t 0 b.mask.origin.x ≤ x → x ≤ min (min b.destination.width 6143) (choose t 6143 (b.mask.origin.x + b.mask.map.width))
           → choose t 0 b.mask.origin.y ≤ y → y ≤ min (min b.destination.height 6143) (choose t 6143 (b.mask.origin.y + b.mask.map.height))

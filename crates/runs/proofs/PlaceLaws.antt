@@ -1,5 +1,5 @@
 -- Where the positions of a stretch lie: each one column further than the one before, inside the map and the mask boundary.
-use Rattle.std.proofs.Common.{◌≡◌, ℕ, zero, suc, ◌+◌, ◌-◌, ◌<◌, ◌≤◌, min, Bool, true, false, ◌&&◌, ◌||◌, eqb, ℤ, pos, negsuc, ◌-ℤ◌, sym, refl, ap, ◌∙◌, le_trans, arith, ltb-true, le-leb}
+use Rattle.std.proofs.Common.{◌≡◌, ℕ, zero, suc, ◌+◌, ◌-◌, ◌<◌, ◌≤◌, min, Bool, true, false, ◌&&◌, ◌||◌, ℤ, pos, negsuc, ◌-ℤ◌, sym, refl, ap, ◌∙◌, le_trans, arith, ltb-true, le-leb}
 use mathlib.Core.Bool.{false≢true}
 use native.Mathlib.Nat.{min-le_left, min-le_right}
 use lib.Signed.{lt_z}
@@ -15,7 +15,7 @@ use Rattle.moves.specs.Inner.{columns_passed}
 use Rattle.moves.proofs.ColumnLaws.{circled_forth, circled_back, turned_forth, turned_back}
 use Rattle.places.specs.declared.Brush.{Brush}
 use Rattle.places.specs.declared.Setup.{Setup}
-use Rattle.places.specs.Places.{is_within, column_of, place_x, on_map, mask_x, mask_y, in_mask, is_disabled}
+use Rattle.places.specs.Places.{is_within, column_of, place_x, on_map, mask_x, mask_y, named_mask, is_disabled, in_mask}
 use Rattle.places.proofs.Columns.{within_place}
 use Rattle.runs.specs.Inner.{columns_on, left_edge, right_edge, goes_across, goes_back, Spans, column_at}
 
@@ -143,7 +143,7 @@ module _ (s : Setup) (pen : Pen) (k : ℕ) (edge : lt_z s.brush.edge (pos 0) ≡
 
     pub inside_at_lem : in_mask b (at i) ≡ true
     unfolding in_mask mask_x mask_y columns_passed
-    inside_at_lem = by (is_disabled b.mask.mode) left_le right_le inside
+    inside_at_lem = by (is_disabled (named_mask b.mask.mode)) left_le right_le inside
       where
         by : (t : Bool) → choose t 0 b.mask.origin.x ≤ col i
             → col i ≤ min (min b.destination.width 6143) (choose t 6143 (b.mask.origin.x + b.mask.map.width))

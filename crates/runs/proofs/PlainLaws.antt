@@ -14,7 +14,7 @@ use Rattle.parts.specs.declared.shapes.Ink.{Ink}
 use Rattle.moves.specs.declared.Pen.{Pen}
 use Rattle.places.specs.declared.Brush.{Brush}
 use Rattle.places.specs.declared.Setup.{Setup}
-use Rattle.places.specs.Places.{is_move, is_nulled, on_map, in_mask, is_enabled}
+use Rattle.places.specs.Places.{is_move, is_nulled, on_map, named_mask, is_enabled, in_mask}
 use Rattle.position.specs.declared.Blends.{Blends}
 use Rattle.position.specs.declared.Fate.{Fate}
 use Rattle.position.specs.declared.Fate.TheVariants.{Moved, Nulled, OutsideMap, OutsideMask, MaskZero, Compared, Painted}
@@ -32,7 +32,7 @@ pub record Plained (s : Setup) : Type 0 where
   pub fills : s.brush.flow.fills ≡ false
   pub unused : s.travel.pattern.used ≡ false
   pub own : s.brush.flow.derived ≡ false
-  pub mask : is_enabled s.brush.mask.mode ≡ false
+  pub mask : is_enabled (named_mask s.brush.mask.mode) ≡ false
   pub condition : s.brush.colours.compare.condition ≡ 4
   pub mix : s.brush.colours.foreground.mix < 16
   pub bits : s.brush.depth.bits ≡ bits_of s.brush.destination.format
@@ -51,8 +51,8 @@ plained s plain blends =
       fills = not-true _ (and_left fills unused (and_left (fills && unused) _ first));
       unused = not-true _ (and_right fills unused (and_left (fills && unused) _ first));
       own = not-true _ (and_right (fills && unused) _ first);
-      mask = not-true _ (and_left (not (is_enabled s.brush.mask.mode)) _ second);
-      condition = eqb-true _ _ (and_right (not (is_enabled s.brush.mask.mode)) _ second);
+      mask = not-true _ (and_left (not (is_enabled (named_mask s.brush.mask.mode))) _ second);
+      condition = eqb-true _ _ (and_right (not (is_enabled (named_mask s.brush.mask.mode))) _ second);
       mix = ltb-true _ _ (and_left mixes _ third);
       bits = eqb-true _ _ (and_right mixes _ third);
       format = λ takes. eqb-true _ _ (asked s.brush.flow.foreground _ fourth takes);
@@ -65,7 +65,7 @@ pub record Patterned (s : Setup) : Type 0 where
   pub used : s.travel.pattern.used ≡ true
   pub front : s.brush.flow.foreground ≡ false
   pub rear : s.brush.flow.background ≡ false
-  pub mask : is_enabled s.brush.mask.mode ≡ false
+  pub mask : is_enabled (named_mask s.brush.mask.mode) ≡ false
   pub condition : s.brush.colours.compare.condition ≡ 4
   pub mix : s.brush.colours.foreground.mix < 16
   pub mix' : s.brush.colours.background.mix < 16
@@ -90,8 +90,8 @@ patterned s inked expanded =
       used = and_right fills _ map;
       front = not-true _ (and_left (not s.brush.flow.foreground) _ inks);
       rear = not-true _ (and_right (not s.brush.flow.foreground) _ inks);
-      mask = not-true _ (and_left (not (is_enabled s.brush.mask.mode)) _ second);
-      condition = eqb-true _ _ (and_right (not (is_enabled s.brush.mask.mode)) _ second);
+      mask = not-true _ (and_left (not (is_enabled (named_mask s.brush.mask.mode))) _ second);
+      condition = eqb-true _ _ (and_right (not (is_enabled (named_mask s.brush.mask.mode))) _ second);
       mix = ltb-true _ _ (and_left (ltb s.brush.colours.foreground.mix 16) _ (and_left mixes _ third));
       mix' = ltb-true _ _ (and_right (ltb s.brush.colours.foreground.mix 16) _ (and_left mixes _ third));
       bits = eqb-true _ _ (and_right mixes _ third);
@@ -101,13 +101,13 @@ patterned s inked expanded =
 
 -- ---- a position that is drawn and inside
 
-module _ (s : Setup) (q : Pen) (memory : List ℕ) (mask : is_enabled s.brush.mask.mode ≡ false) (condition : s.brush.colours.compare.condition ≡ 4)
+module _ (s : Setup) (q : Pen) (memory : List ℕ) (mask : is_enabled (named_mask s.brush.mask.mode) ≡ false) (condition : s.brush.colours.compare.condition ≡ 4)
     (draws : is_move s.travel q.drawing ≡ false) (shown : is_nulled s q ≡ false)
     (on : on_map s.brush q ≡ true) (inside : in_mask s.brush q ≡ true) where
   painted : fate_of s memory q ≡ Painted
   unfolding fate_of on_zero
   painted =
-      let zero = and_no (is_enabled s.brush.mask.mode) _ mask in
+      let zero = and_no (is_enabled (named_mask s.brush.mask.mode)) _ mask in
       let compared = never s memory q condition in
       λ j.
       choose (draws j) Moved

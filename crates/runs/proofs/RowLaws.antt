@@ -1,5 +1,5 @@
 -- A stretch of a plain row is a lane of pixels: each of its positions is painted, and makes its pixel by the blend.
-use Rattle.std.proofs.Common.{◌≡◌, ℕ, zero, suc, ◌+◌, ◌-◌, ◌*◌, ◌/◌, ◌%◌, ◌^◌, ◌<◌, ◌≤◌, Bool, true, false, ◌&&◌, eqb, List, pos, sym, refl, ap, ◌∙◌, subst, le_trans, lt_of_le_of_lt, mul-le-mul_right, arith}
+use Rattle.std.proofs.Common.{◌≡◌, ℕ, zero, suc, ◌+◌, ◌-◌, ◌*◌, ◌/◌, ◌%◌, ◌^◌, ◌<◌, ◌≤◌, Bool, true, false, ◌&&◌, List, pos, sym, refl, ap, ◌∙◌, subst, le_trans, lt_of_le_of_lt, mul-le-mul_right, arith}
 use mathlib.Core.Bool.{false≢true}
 use native.Mathlib.Nat.{min-le_left, min-le_right}
 use lib.Signed.{lt_z}
@@ -24,7 +24,7 @@ use Rattle.moves.proofs.CircledLaws.{OnCircle}
 use Rattle.moves.proofs.ColumnLaws.{pos_on}
 use Rattle.moves.proofs.Kept.{source_in, pattern_in}
 use Rattle.places.specs.declared.Setup.{Setup}
-use Rattle.places.specs.Places.{is_move, is_first, is_last, on_boundary, nulled_by, is_nulled, on_map, in_mask}
+use Rattle.places.specs.Places.{is_move, is_first, is_last, on_boundary, named_mode, nulled_by, is_nulled, on_map, in_mask}
 use Rattle.places.proofs.ModeLaws.{none_left}
 use Rattle.position.specs.declared.Blends.{Blends}
 use Rattle.position.specs.Drawn.{source_pixel, drawn}
@@ -258,7 +258,7 @@ module _ (s : Setup) (p : RowPlan) (planned : RowPlanned s p)
           draws = ap (is_move s.travel) d
 
           shown : nulled_by s pen.e (drawing_on i pen.drawing) ≡ false
-          shown = ap (nulled_by s pen.e) d ∙ none_left s.brush.flow.mode
+          shown = ap (nulled_by s pen.e) d ∙ none_left (named_mode s.brush.flow.mode)
 
           on : on_map s.brush (at i) ≡ true
           on = on_at s pen k row.edge row.across stretch.on stretch.inside columns i less

@@ -1,5 +1,5 @@
 -- What a drawing with strokes has, and a stroke of it: parts of one step, and small terms.
-use Rattle.std.proofs.Common.{◌≡◌, ℕ, Bool, true, false, not, ◌&&◌, ℤ, pos, refl, mod-lt, lit<, eqb-true, Some, None}
+use Rattle.std.proofs.Common.{◌≡◌, ℕ, Bool, true, false, not, ◌&&◌, ℤ, pos, refl, mod-lt, lit<, Some, None}
 use lib.Signed.{lt_z}
 use borrow.Author.Tests.{not-true}
 use Rattle.numbers.specs.Choose.{choose}
@@ -19,6 +19,7 @@ use Rattle.moves.specs.declared.Turn.TheVariants.{Stay, Forth, Back}
 use Rattle.moves.specs.Steps.{code_step}
 use Rattle.places.specs.declared.Mode.TheVariants.{AllPixels}
 use Rattle.places.specs.declared.Setup.{Setup}
+use Rattle.places.specs.Places.{named_mode}
 use Rattle.places.proofs.ModeLaws.{all_lem}
 use Rattle.runs.specs.Inner.{agrees, is_plain, is_blended, is_straight, has_strokes}
 use Rattle.runs.specs.Inner.{line_drawn, code_drawn, line_stroke, code_stroke, stroke_of, trail_from}
@@ -35,7 +36,7 @@ pub record Stroked (s : Setup) : Type 0 where
   pub down : agrees s.travel.course.straight.y s.travel.course.y ≡ true
   pub alone : s.travel.source.used ≡ false
   pub colour : s.brush.flow.foreground ≡ false
-  pub mode : s.brush.flow.mode ≡ AllPixels
+  pub mode : named_mode s.brush.flow.mode ≡ AllPixels
 
 pub stroked : (s : Setup) → has_strokes s ≡ true → Stroked s
 stroked s has =

@@ -27,7 +27,7 @@ use Rattle.moves.specs.Inner.{columns_passed}
 use Rattle.places.specs.declared.MaskMode.{MaskMode}
 use Rattle.places.specs.declared.Brush.{Brush}
 use Rattle.places.specs.declared.Setup.{Setup}
-use Rattle.places.specs.Places.{column_of, place_x, on_map, in_mask, is_disabled, is_enabled, is_all}
+use Rattle.places.specs.Places.{column_of, place_x, on_map, named_mask, is_disabled, is_enabled, in_mask, named_mode, is_all}
 use Rattle.position.specs.declared.Blends.{Blends}
 use Rattle.position.specs.Drawn.{drawn}
 use Rattle.runs.specs.declared.Ran.{Ran}
@@ -86,16 +86,16 @@ high_edge last mode origin extent = min (min last 6143) (mask_end mode origin ex
 
 -- the columns and rows that are inside the map and the mask boundary
 abbrev pub left_edge : Brush → ℕ
-left_edge b = low_edge b.mask.mode b.mask.origin.x
+left_edge b = low_edge (named_mask b.mask.mode) b.mask.origin.x
 
 abbrev pub right_edge : Brush → ℕ
-right_edge b = high_edge b.destination.width b.mask.mode b.mask.origin.x b.mask.map.width
+right_edge b = high_edge b.destination.width (named_mask b.mask.mode) b.mask.origin.x b.mask.map.width
 
 abbrev pub top_edge : Brush → ℕ
-top_edge b = low_edge b.mask.mode b.mask.origin.y
+top_edge b = low_edge (named_mask b.mask.mode) b.mask.origin.y
 
 abbrev pub bottom_edge : Brush → ℕ
-bottom_edge b = high_edge b.destination.height b.mask.mode b.mask.origin.y b.mask.map.height
+bottom_edge b = high_edge b.destination.height (named_mask b.mask.mode) b.mask.origin.y b.mask.map.height
 
 -- whether a turn moves
 abbrev pub goes_across : Turn → Bool
@@ -111,7 +111,7 @@ goes_back Back = true
 
 -- no position is kept back by a mask pixel or by the condition
 abbrev pub is_free : Brush → Bool
-is_free b = not (is_enabled b.mask.mode) && b.colours.compare.condition == 4
+is_free b = not (is_enabled (named_mask b.mask.mode)) && b.colours.compare.condition == 4
 
 -- it goes row by row, on either side of the map's left edge
 abbrev pub goes_in_rows : Setup → Bool
@@ -167,7 +167,7 @@ is_straight c = (not c.read && not c.bounds) && (agrees c.straight.x c.x && agre
 abbrev pub has_strokes : Setup → Bool
 has_strokes s =
     is_plain s && is_blended s && (int_lt s.brush.edge (pos 0) && is_straight s.travel.course)
-    && ((not s.travel.source.used && not s.brush.flow.foreground) && is_all s.brush.flow.mode)
+    && ((not s.travel.source.used && not s.brush.flow.foreground) && is_all (named_mode s.brush.flow.mode))
 
 -- the map whose pixels a row takes beside its own
 abbrev pub taken_map : Setup → Taken → Map

@@ -8,6 +8,7 @@ ghost use Rattle.runs.specs.Inner.{low_edge, mask_end, high_edge, is_free, goes_
 use moves::{Course, Turn};
 use parts::drawing::Drawing;
 use pixels::{Map, bits_of};
+use places::decoded::{named_mask, named_mode};
 use places::{Brush, MaskMode, Mode, Setup};
 use position::Blends;
 use rows::Whole;
@@ -57,7 +58,7 @@ pub enum Plan {
 fn is_free(brush: Brush) -> bool
     ensures { result ≡ is_free brush }
 {
-    (brush.mask.mode != MaskMode::Enabled) & (brush.colours.compare.condition == 4)
+    (named_mask(brush.mask.mode) != MaskMode::Enabled) & (brush.colours.compare.condition == 4)
 }
 
 // Whether every position is of the foreground, and none is kept back by a mask pixel or by the condition.
@@ -160,7 +161,8 @@ fn has_strokes(setup: Setup) -> bool
     is_plain(setup)
         & is_blended(setup)
         & ((setup.brush.edge < 0) & is_straight(setup.travel.course))
-        & ((!setup.travel.source.used & !flow.foreground) & (flow.mode == Mode::AllPixels))
+        & ((!setup.travel.source.used & !flow.foreground)
+            & (named_mode(flow.mode) == Mode::AllPixels))
 }
 
 // The first column or row inside the mask boundary.
@@ -239,15 +241,16 @@ fn row_plan(setup: Setup, blends: Blends, inks: bool) -> RowPlan
     ensures { RowPlanned setup result × RowBlended setup blends result }
 {
     let mask = setup.brush.mask;
+    let mode = named_mask(mask.mode);
     let takes = taken_of(setup, inks);
     RowPlan {
         takes,
         map: taken_map(setup, takes),
         back: goes_back(setup.travel.course.x),
-        left: low_edge(mask.mode, mask.origin.x),
+        left: low_edge(mode, mask.origin.x),
         right: high_edge(
             setup.brush.destination.width,
-            mask.mode,
+            mode,
             mask.origin.x,
             mask.map.width,
         ),
@@ -262,18 +265,19 @@ fn stroke_plan(setup: Setup, blends: Blends) -> StrokePlan
     ensures { StrokePlanned setup result × BlendOf setup blends.foreground result.whole }
 {
     let mask = setup.brush.mask;
+    let mode = named_mask(mask.mode);
     StrokePlan {
-        left: low_edge(mask.mode, mask.origin.x),
+        left: low_edge(mode, mask.origin.x),
         right: high_edge(
             setup.brush.destination.width,
-            mask.mode,
+            mode,
             mask.origin.x,
             mask.map.width,
         ),
-        top: low_edge(mask.mode, mask.origin.y),
+        top: low_edge(mode, mask.origin.y),
         bottom: high_edge(
             setup.brush.destination.height,
-            mask.mode,
+            mode,
             mask.origin.y,
             mask.map.height,
         ),

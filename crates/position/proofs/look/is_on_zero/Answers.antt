@@ -1,5 +1,4 @@
 -- `is_on_zero` is the definition: where the mask is enabled its pixel decides, and otherwise it is not asked.
-use borrow.Author.Rules.{rules}
 use native.Mathlib.Omega.{arith}
 use Rattle.std.proofs.lemmas.Grind.{common_steps}
 use Rattle.position.specs.Fates.{on_zero}
