@@ -2,7 +2,6 @@
 use mathlib.Core.Path.{◌≡◌, refl}
 use mathlib.Core.List.{[], ◌∷◌}
 use Rattle.console.specs.declared.Command.TheVariants.{Write, Run, Blank, Neither}
-use Rattle.parts.specs.declared.refusals.Refusal.TheVariants.{Image}
 use Rattle.console.specs.declared.Answer.TheVariants.{Done, Refused, Nothing, Neither as Unread}
 use Rattle.console.specs.Words.{is_blank, kept, split, line_words}
 use Rattle.console.specs.Digits.{digit_of, digits, value, fitted, number_from, word_number}
@@ -52,7 +51,7 @@ pub answers_told :
     -- "ok 2" and a newline
     (answer_text (Done 2) 7 ≡ 0x6F ∷ 0x6B ∷ 0x20 ∷ 0x32 ∷ 0x0A ∷ [])
     -- "no 10" and a newline
-    × (answer_text (Refused Image) 7 ≡ 0x6E ∷ 0x6F ∷ 0x20 ∷ 0x31 ∷ 0x30 ∷ 0x0A ∷ [])
+    × (answer_text (Refused 10) 7 ≡ 0x6E ∷ 0x6F ∷ 0x20 ∷ 0x31 ∷ 0x30 ∷ 0x0A ∷ [])
     -- "line 100: not a call" and a newline
     × (answer_text Unread 100
     ≡ 0x6C ∷ 0x69 ∷ 0x6E ∷ 0x65 ∷ 0x20 ∷ 0x31 ∷ 0x30 ∷ 0x30 ∷ 0x3A ∷ 0x20 ∷ 0x6E ∷ 0x6F ∷ 0x74 ∷ 0x20 ∷ 0x61 ∷ 0x20 ∷ 0x63 ∷ 0x61 ∷ 0x6C ∷ 0x6C ∷ 0x0A ∷ [])

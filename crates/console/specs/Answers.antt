@@ -1,6 +1,7 @@
 -- What comes of a command, by what the coprocessor's calls promise.
 use Rattle.std.specs.Prelude.{List, ℕ, Result, Ok, Err}
 use Rattle.parts.specs.declared.refusals.Refusal.{Refusal}
+use Rattle.parts.specs.Refusals.{number_of}
 use Rattle.coprocessor.specs.declared.Coprocessor.{Coprocessor}
 use Rattle.coprocessor.specs.Writes.{write_answer}
 use Rattle.coprocessor.specs.Runs.{run_answer, run_memory}
@@ -13,7 +14,7 @@ use Rattle.console.specs.declared.answers.Told.{Told}
 -- 01, the bench program: the positions done, or the refusal
 unfoldable pub outcome_of : Result Unit Refusal → ℕ → Answer
 outcome_of (Ok _) positions = Done positions
-outcome_of (Err refusal) positions = Refused refusal
+outcome_of (Err refusal) positions = Refused (number_of refusal)
 
 -- 01, the bench program: 0 positions for writes
 unfoldable pub write_told : (offset length value : ℕ) → Coprocessor → Told

@@ -1,7 +1,6 @@
 -- Answers and memory as text.
 use Rattle.std.specs.Prelude.{◌≡◌, List, [], ◌∷◌, ◌++◌, ℕ, zero, suc, ◌+◌, ◌/◌, ◌%◌, ◌≤◌, length, take, ltb, eqb}
 use Rattle.numbers.specs.Choose.{choose}
-use Rattle.parts.specs.Refusals.{number_of}
 use Rattle.console.specs.declared.Answer.{Answer}
 use Rattle.console.specs.declared.Answer.TheVariants.{Done, Refused, Nothing, Neither}
 
@@ -37,7 +36,7 @@ newline = 0x0A ∷ []
 -- 01, the bench program: `ok` and positions done, or `no` and the refusal; docs/DECISIONS.md, 44: a line that is neither is told by its number
 unfoldable pub answer_text : Answer → ℕ → List ℕ
 answer_text (Done positions) at = numbered okay positions newline
-answer_text (Refused refusal) at = numbered no (number_of refusal) newline
+answer_text (Refused number) at = numbered no number newline
 answer_text Nothing at = []
 answer_text Neither at = numbered line at unread
 

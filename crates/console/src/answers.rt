@@ -15,14 +15,16 @@ pub struct Told {
     pub coprocessor: Coprocessor,
 }
 
-// The positions done, or the refusal.
+// The positions done, or the refusal's number; a text is written of any number.
 #[tactic(auto, unfolding(crate::specs::Answers::outcome_of))]
 fn outcome_of(outcome: Result<(), Refusal>, positions: u32) -> Answer
     ensures { result ≡ outcome_of outcome positions }
 {
     match outcome {
         Ok(()) => Answer::Done { positions },
-        Err(refusal) => Answer::Refused(refusal),
+        Err(refusal) => Answer::Refused {
+            number: refusal as u32,
+        },
     }
 }
 

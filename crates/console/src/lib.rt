@@ -8,8 +8,6 @@ pub mod gather;
 pub mod texts;
 mod words;
 
-use parts::refusals::Refusal;
-
 // What a line asks for: one of four kinds, which one match tells apart. A Result with an Option in it would say the same in two
 // layers.
 #[derive(Clone, Copy)]
@@ -30,7 +28,7 @@ pub enum Command {
 #[derive(Clone, Copy)]
 pub enum Answer {
     Done { positions: u32 },
-    Refused(Refusal),
+    Refused { number: u32 },
     Nothing,
     Neither,
 }

@@ -38,7 +38,7 @@ pub fn answer_text(answer: Answer, line: u64, out: &mut [u8; 40]) -> usize
 {
     match answer {
         Answer::Done { positions } => put_numbered(out, b"ok ", u64::from(positions), b"\n"),
-        Answer::Refused(refusal) => put_numbered(out, b"no ", refusal as u64, b"\n"),
+        Answer::Refused { number } => put_numbered(out, b"no ", u64::from(number), b"\n"),
         Answer::Nothing => 0,
         Answer::Neither => put_numbered(out, b"line ", line, b": not a call\n"),
     }
