@@ -1,7 +1,7 @@
 -- Text laid into a buffer piece by piece: what is laid after a piece goes on from the piece's end.
 use mathlib.Core.Path.{◌≡◌, refl, ◌∙◌}
 use mathlib.Core.List.{List, [], ◌∷◌, ◌++◌, append-nil, append_assoc}
-use Prim.Native.Nat.{ℕ, suc, ◌+◌, ◌*◌, ◌/◌, ◌%◌, ◌≤◌, ◌<◌}
+use Prim.Native.Nat.{ℕ, zero, suc, ◌+◌, ◌*◌, ◌/◌, ◌%◌, ◌≤◌, ◌<◌, zero-le, suc-le-suc}
 use native.Mathlib.Nat.{zero-add, add-zero, add-suc, suc-add}
 use native.Mathlib.Numerals.{add-one}
 use native.Mathlib.Omega.{arith}
@@ -12,8 +12,12 @@ use Rattle.std.proofs.lemmas.Slice.{take-put_mid, drop-put_mid}
 use borrow.Rule.Slice.PartMut.{put_mid}
 use Rattle.std.proofs.lemmas.Fmt.{decimal_from_appends}
 use Rattle.std.specs.Fmt.{decimal as library_decimal}
+use lib.Dec.{ltb}
 use borrow.Author.Tests.{lt-ltb, le-ltb}
-use Rattle.console.specs.Texts.{decimal, numbered, byte_text, bytes_text, memory_text}
+use Rattle.numbers.proofs.Choices.{choose_either}
+use Rattle.console.specs.declared.Answer.{Answer}
+use Rattle.console.specs.declared.Answer.TheVariants.{Done, Refused, Nothing, Neither}
+use Rattle.console.specs.Texts.{decimal, numbered, okay, no, line, unread, newline, answer_text, byte_text, bytes_text, memory_text}
 
 -- text that was copied to its place is laid there
 pub copied : (out text : List ℕ) (at : ℕ) → at + length text ≤ length out → put_mid at (length text) out text ≡ sets out at text
@@ -49,6 +53,14 @@ decimal_more : (places n : ℕ) → 10 ≤ n → decimal (suc places) n ≡ deci
 unfolding decimal
 decimal_more places n large = rw (le-ltb n 10 large)
 
+-- it has no more digits than there are places
+pub decimal_length : (places n : ℕ) → length (decimal places n) ≤ places
+unfolding decimal
+decimal_length zero n = zero-le
+decimal_length (suc places) n =
+    let less = decimal_length places (n / 10) in let whole = length-append (decimal places (n / 10)) ((48 + n % 10) ∷ []) in
+    choose_either (λ (s : List ℕ). length s ≤ suc places) (ltb n 10) (suc-le-suc zero-le) (omega arith)
+
 -- it is what the library writes, which has room in 20 digits
 pub decimal_written : (n : ℕ) → n < 2 ^ 64 → length (library_decimal n) ≤ 20 → decimal 20 n ≡ library_decimal n
 decimal_written n small few = decimal_from_appends decimal (record { one = decimal_one; more = decimal_more }) 20 n small few
@@ -63,6 +75,14 @@ numbered_laid out before after n = simp (append_assoc, sets_append)
 pub numbered_length : (before after : List ℕ) (n : ℕ) → length (numbered before n after) ≡ 0 + length before + length (decimal 20 n) + length after
 unfolding numbered
 numbered_length before after n = simp length-append (omega arith)
+
+-- an answer is short, at whatever line
+pub answer_length : (answer : Answer) (at : ℕ) → length (answer_text answer at) ≤ 40
+unfolding answer_text
+answer_length (Done positions) at = omega (arith, numbered_length okay newline positions, decimal_length 20 positions)
+answer_length (Refused number) at = omega (arith, numbered_length no newline number, decimal_length 20 number)
+answer_length Nothing at = zero-le
+answer_length Neither at = omega (arith, numbered_length line unread at, decimal_length 20 at)
 
 -- ---- memory in hex
 

@@ -77,6 +77,16 @@ module _ (s : Setup) (memory : List ℕ) (pen : Pen) where
       by_foreseen (λ a b. is_painted b ≡ true → (on_map s.brush pen ≡ true) × (in_mask s.brush pen ≡ true))
       (λ on inside e. (on, inside)) (λ f no e. absurd (false≢true (sym no ∙ e)))
 
+  -- it was foreseen as one that may be painted, and is not on a 0 mask pixel
+  pub painted_open : is_painted (fate_of s memory pen) ≡ true → (foreseen_of s pen ≡ Ok tt) × (on_zero s.brush memory pen ≡ false)
+  painted_open =
+      by_foreseen (λ a b. is_painted b ≡ true → (a ≡ Ok tt) × (on_zero s.brush memory pen ≡ false))
+      (λ on inside e. (refl, by (on_zero s.brush memory pen) (is_compared s.brush memory pen) e)) (λ f no e. absurd (false≢true (sym no ∙ e)))
+    where
+      by : (zero compared : Bool) → is_painted (choose zero MaskZero (choose compared Compared Painted)) ≡ true → zero ≡ false
+      by true compared e = absurd (false≢true e)
+      by false compared e = refl
+
   pub painted_on_map : is_painted (fate_of s memory pen) ≡ true → on_map s.brush pen ≡ true
   painted_on_map e = (painted_inside e).0
 
