@@ -17,7 +17,8 @@ use Rattle.moves.specs.Moves.{pen_stepped, pen_with, column_passed, row_passed}
 
 -- the pen after going this way: its used pointers stepped, at the next column, past a row's end, or as it is with another drawing in hand
 unfoldable pub went_by : Travel → Way → Pen → Pen
-went_by s (Along from to e drawing) pen = pen_stepped s from to e drawing pen
+went_by s (Along from_x from_y to_x to_y e drawing) pen =
+    pen_stepped s (record { x = from_x; y = from_y }) (record { x = to_x; y = to_y }) e drawing pen
 went_by s (Column drawing) pen = column_passed s drawing pen
 went_by s (Row drawing) pen = row_passed s drawing pen
 went_by s (Here drawing) pen = pen_with drawing pen

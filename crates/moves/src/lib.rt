@@ -33,12 +33,15 @@ pub struct Course {
 }
 
 // How the pen comes to the next position: along a step of a line or code, to the next column of a row, over a row's end, or not at
-// all; and the drawing in hand there. Along a step, source and pattern go by `from` and the destination by `to`.
+// all; and the drawing in hand there. Along a step, source and pattern go by `from` and the destination by `to`; the parts of both go by
+// themselves, so that a loop over positions need not pack them.
 #[derive(Clone, Copy)]
 pub(crate) enum Way {
     Along {
-        from: Point<Turn>,
-        to: Point<Turn>,
+        from_x: Turn,
+        from_y: Turn,
+        to_x: Turn,
+        to_y: Turn,
         e: i32,
         drawing: Drawing,
     },

@@ -2,7 +2,9 @@ ghost use Rattle.std.specs.Prelude.{◌≡◌, ◌≤◌};
 ghost use Rattle.moves.specs.Turns as defined;
 
 use crate::Turn;
-use numbers::circles::{destination_back, destination_forth, steps_back, steps_forth};
+use numbers::circles::{
+    destination_back, destination_forth, step_back, step_forth, steps_back, steps_forth,
+};
 
 impl Turn {
     // The other way.
@@ -16,7 +18,7 @@ impl Turn {
         }
     }
 
-    // `count` steps of a pointer in a map that ends at `last`; it divides only where they leave the map.
+    // `count` steps of a pointer in a map that ends at `last`; it divides only where several of them leave the map.
     #[inline(always)]
     pub(crate) fn by(self, count: u16, last: u16, x: u16) -> u16
         requires { x ≤ last }
@@ -24,8 +26,10 @@ impl Turn {
     {
         match self {
             Turn::Stay => x,
+            Turn::Forth if count == 1 => step_forth(x, last),
             Turn::Forth if x as u32 + count as u32 <= last as u32 => x + count,
             Turn::Forth => steps_forth(x, last, count),
+            Turn::Back if count == 1 => step_back(x, last),
             Turn::Back if count <= x => x - count,
             Turn::Back => steps_back(x, last, count),
         }

@@ -11,23 +11,24 @@ use parts::drawing::Drawing;
 use parts::shapes::Point;
 use rules::codes::{code_at, steps_of, stops};
 
+// The first turn in a read form, and otherwise the second.
+fn turn_in(read: bool, first: Turn, second: Turn) -> Turn
+    ensures { result ≡ choose read first second }
+{
+    if read { first } else { second }
+}
+
 // The way of one step of a line or code: a read form moves source and pattern by it and the destination to the right,
 // and any other the reverse.
 fn way_along(course: Course, step: Point<Turn>, e: i32, drawing: Drawing) -> Way
-    ensures { result ≡ Way.Along (defined.source_by course step) (defined.destination_by course step) e drawing }
+    ensures { result ≡ Way.Along (defined.source_by course step).x (defined.source_by course step).y
+        (defined.destination_by course step).x (defined.destination_by course step).y e drawing }
 {
-    let right = Point {
-        x: Turn::Forth,
-        y: Turn::Stay,
-    };
-    let (from, to) = if course.read {
-        (step, right)
-    } else {
-        (right, step)
-    };
     Way::Along {
-        from,
-        to,
+        from_x: turn_in(course.read, step.x, Turn::Forth),
+        from_y: turn_in(course.read, step.y, Turn::Stay),
+        to_x: turn_in(course.read, Turn::Forth, step.x),
+        to_y: turn_in(course.read, Turn::Stay, step.y),
         e,
         drawing,
     }

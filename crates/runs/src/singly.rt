@@ -19,13 +19,16 @@ pub(crate) fn run_singly(job: &Job, from: Pen, memory: &mut [u8], allowance: u32
         × (result.done ≡ (after job.now.setup allowance (begun from memory.old)).done)
         × (memory.new ≡ (after job.now.setup allowance (begun from memory.old)).memory) }
 {
+    // They are the loop's own, so that what it writes to memory cannot change them.
+    let setup = job.setup;
+    let blends = job.blends;
     let mut pen = from;
     for done in 0..allowance {
         if !is_unfinished(pen.drawing) {
             return Ran { pen, done };
         }
-        let inside = draw(job.setup, job.blends, memory, pen);
-        pen = next(job.setup.travel, inside, pen);
+        let inside = draw(setup, blends, memory, pen);
+        pen = next(setup.travel, inside, pen);
     }
     Ran {
         pen,

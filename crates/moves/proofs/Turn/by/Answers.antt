@@ -12,16 +12,24 @@ returns-in-Stay c = rw c.in-Stay.is
 
 pub returns-in-Forth : goal.returns-in-Forth
 unfolding turned_by
-returns-in-Forth c = rw c.in-Forth.is (sym (forth_inside _ _ _ (omega arith)))
+returns-in-Forth c = rw (c.in-Forth.is, c.if-count-eq1.true, c.step_forth.ensures)
 
 pub returns-in-Forth-2 : goal.returns-in-Forth-2
 unfolding turned_by
-returns-in-Forth-2 c = rw (c.in-Forth.is, c.steps_forth.ensures)
+returns-in-Forth-2 c = rw c.in-Forth-2.is (sym (forth_inside _ _ _ (omega arith)))
+
+pub returns-in-Forth-3 : goal.returns-in-Forth-3
+unfolding turned_by
+returns-in-Forth-3 c = rw (c.in-Forth-2.is, c.steps_forth.ensures)
 
 pub returns-in-Back : goal.returns-in-Back
 unfolding turned_by
-returns-in-Back c = rw c.in-Back.is (sym (back_inside _ _ _ c.if-count-x.true (omega arith)))
+returns-in-Back c = rw (c.in-Back.is, c.if-count-eq1-2.true, c.step_back.ensures)
 
 pub returns-in-Back-2 : goal.returns-in-Back-2
 unfolding turned_by
-returns-in-Back-2 c = rw (c.in-Back.is, c.steps_back.ensures)
+returns-in-Back-2 c = rw c.in-Back-2.is (sym (back_inside _ _ _ c.if-count-x.true (omega arith)))
+
+pub returns-in-Back-3 : goal.returns-in-Back-3
+unfolding turned_by
+returns-in-Back-3 c = rw (c.in-Back-2.is, c.steps_back.ensures)

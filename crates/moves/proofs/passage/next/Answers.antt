@@ -20,7 +20,8 @@ unfolding went_by
 returns-in-Along c = let a = c.args in
     let w = c.in-Along in
     rw (c.step_pen.ensures, to_z-of_z w32 c.in-Along.e (search rules))
-    (turned_once a.travel w.drawing a.pen w.from w.to w.e ∙ known a.travel a.pen c.in-Along.is c.way_of.ensures)
+    (turned_once a.travel w.drawing a.pen (record { x = w.from_x; y = w.from_y }) (record { x = w.to_x; y = w.to_y }) w.e
+    ∙ known a.travel a.pen c.in-Along.is c.way_of.ensures)
 
 pub returns-in-Column : goal.returns-in-Column
 unfolding went_by
