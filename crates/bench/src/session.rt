@@ -124,7 +124,7 @@ impl Bench {
     }
 
     // At the input's end does the last line, and shows the memory.
-    #[tactic(auto, unfolding(crate::specs::Inner::input_ended))]
+    #[tactic(auto, unfolding(crate::specs::Inner::session_of, crate::specs::Inner::input_ended))]
     pub(crate) fn end_input(&mut self)
         requires { self.old.text.laid + 232 ≤ 65536 }
         ensures { session_of self.new ≡ input_ended (session_of self.old) }

@@ -72,6 +72,7 @@ pub fn pass_columns(travel: Travel, count: u16, drawing: Drawing, pen: Pen) -> P
 
 // The pen at the start of the next row, from so many columns into this one; the destination goes the other way in an inverting block.
 #[inline(always)]
+#[tactic(auto, using(crate::proofs::PenLaws::row_turned))]
 pub fn return_row(travel: Travel, columns: u16, drawing: Drawing, pen: Pen) -> Pen
     requires { pointers_inside travel pen ≡ true }
     ensures { result ≡ row_returned travel columns drawing pen }

@@ -134,7 +134,7 @@ fn bend(memory: &mut [u8], trail: Trail, whole: Whole, from: Traced) -> Traced
     from.step(trail.turned, trail.k2)
 }
 
-// The first pixels of a trail, as many as are asked, or fewer where another turn would be one too many.
+// The first pixels of a trail, as many as are asked, or fewer where another turn would be one too many: then every turn is taken.
 pub fn trace(memory: &mut [u8], trail: Trail, whole: Whole, count: u32, turns: u32) -> Traced
     requires { Termed trail
         × ((i : ℕ) → i < count → turns_at trail i ≤ turns → place_at trail.format trail.base (number_at trail i) < length memory.old) }
@@ -143,7 +143,8 @@ pub fn trace(memory: &mut [u8], trail: Trail, whole: Whole, count: u32, turns: u
         × (result.at ≡ number_at trail result.done)
         × (result.e ≡ error_at trail result.done)
         × ((op : ℕ → ℕ → ℕ) → Alike trail.format op (wholly whole)
-        → memory.new ≡ traced (op 0) trail result.done memory.old) }
+        → memory.new ≡ traced (op 0) trail result.done memory.old)
+        × (result.done < count → turns_at trail result.done ≡ turns) }
 {
     let mut gone = Traced {
         at: trail.at,

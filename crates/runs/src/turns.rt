@@ -15,6 +15,7 @@ use moves::Pen;
 
 // The next positions that are alike, of a row or of a stroke, and none where there are none; none is a count like any other, which a stroke
 // answers too.
+#[tactic(auto, unfolding(crate::specs::Runs::after, crate::specs::Runs::begun))]
 fn draw_alike(job: &Job, memory: &mut [u8], pen: Pen, allowance: u32) -> Ran
     requires { Safe job.now.setup (length memory.old) pen }
     ensures { (result.done ≤ allowance) × Did job.now.setup pen memory.old memory.new result }

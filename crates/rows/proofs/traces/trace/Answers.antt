@@ -5,7 +5,7 @@ use Rattle.rows.specs.declared.Trail.{Trail}
 use Rattle.rows.specs.declared.Traced.{Traced}
 use Rattle.rows.specs.Inner.{wholly, Alike, error_at, number_at, turns_at, traced, Straight, Stands}
 use Rattle.rows.proofs.traces.trace.Goals as goal
-use Rattle.rows.proofs.traces.trace.Goals.{At-loop, After-straight-gone}
+use Rattle.rows.proofs.traces.trace.Goals.{At-loop}
 
 -- before it goes straight on
 stands : (c : At-loop) → c.loop.counter ≤ c.args.turns → Stands c.args.trail c.args.count c.loop.gone (length c.loop.memory)
@@ -20,16 +20,20 @@ stands c most =
 
 -- and where it ends
 ended : (t : Trail) (w : Blend ℕ) (count turns : ℕ) (from to : Traced) (x y z : List ℕ) → turns_at t from.done ≤ turns
+    → (to.done < count → turns_at t from.done ≡ turns)
     → ((op : ℕ → ℕ → ℕ) → Alike t.format op (wholly w) → y ≡ traced (op 0) t from.done x) → Straight t w count from to y z
     → (to.done ≤ count) × (turns_at t to.done ≤ turns) × (to.at ≡ number_at t to.done) × (to.e ≡ error_at t to.done)
     × ((op : ℕ → ℕ → ℕ) → Alike t.format op (wholly w) → z ≡ traced (op 0) t to.done x)
-ended t w count turns from to x y z most before straight =
-    let goes = straight.2 in
-    (straight.0, omega (arith, goes.turned), goes.reached.0, goes.reached.1, λ op alike. goes.made op x alike (before op alike))
-
--- a pixel is left where it did not end
-less : (c : After-straight-gone) → (c.straight-gone.result.done ≡ c.args.count → ⊥) → c.straight-gone.result.done < c.args.count
-less c ne = omega (arith, c.straight-gone.ensures.0, ne)
+    × (to.done < count → turns_at t to.done ≡ turns)
+ended t w count turns from to x y z most all before straight =
+    let goes = straight.2 in (
+      straight.0,
+      omega (arith, goes.turned),
+      goes.reached.0,
+      goes.reached.1,
+      λ op alike. goes.made op x alike (before op alike),
+      λ less. omega (arith, goes.turned, all less),
+    )
 
 pub loop-init : goal.loop-init
 unfolding error_at number_at turns_at traced
@@ -46,7 +50,7 @@ bend-gone-requires c =
     let inv = c.loop.invariant in
     let straight = c.straight-gone in
     let goes = straight.ensures.2 in
-    let left = less (goal.at.bend-gone-requires c).After-straight-gone c.if-gone-count.false in (
+    let left : straight.result.done < c.args.count = omega (arith, straight.ensures.0, c.if-gone-count.false) in (
       c.requires.0,
       goes.reached,
       omega (arith, left),
@@ -59,7 +63,7 @@ loop-preserved c =
     let inv = c.loop.invariant in
     let first = c.straight-gone.ensures.2 in
     let second = c.bend-gone.ensures.1 in (
-      omega (arith, c.bend-gone.ensures.0, less (goal.at.loop-preserved c).After-straight-gone c.if-gone-count.false),
+      omega (arith, c.bend-gone.ensures.0, c.straight-gone.ensures.0, c.if-gone-count.false),
       omega (arith, inv.1, first.turned, second.turned),
       second.reached,
       λ op alike. second.made op _ alike (first.made op _ alike (inv.3 op alike)),
@@ -68,9 +72,9 @@ loop-preserved c =
 pub returns-then-gone-count : goal.returns-then-gone-count
 returns-then-gone-count c =
     let inv = c.loop.invariant in
-    ended _ _ _ _ _ _ _ _ _ (omega (arith, inv.1)) inv.3 c.straight-gone.ensures
+    ended _ _ _ _ _ _ _ _ _ (omega (arith, inv.1)) (λ less. omega (arith, less, c.if-gone-count.true)) inv.3 c.straight-gone.ensures
 
 pub returns : goal.returns
 returns c =
     let inv = c.loop.invariant in
-    ended _ _ _ _ _ _ _ _ _ (omega (arith, inv.1)) inv.3 c.straight.ensures
+    ended _ _ _ _ _ _ _ _ _ (omega (arith, inv.1)) (λ less. omega (arith, inv.1)) inv.3 c.straight.ensures
