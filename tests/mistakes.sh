@@ -2,8 +2,8 @@
 # Whether each mistake of the must-fail edits is refused for itself, and over a fact: for every line `# refused: PLACE [LAW]` the check of the crate
 # with that edit has an error in the proof of that function, or in that law of that file of proofs/, or finds no proof of what the function promises;
 # an error that is only of something refused before it, or of a name that the edit took away, does not count. Where another mistake of the edit
-# hides it, it is tried alone. The logs are target/must-fail/CRATE/EDIT.log, and EDIT.NUMBER.log of a mistake that was tried alone; each is made anew
-# where what it was made from has changed.
+# hides it, it is tried alone. No edit names one PLACE [LAW] twice: its mistakes are each in another function. The logs are
+# target/must-fail/CRATE/EDIT.log, and EDIT.NUMBER.log of a mistake that was tried alone; each is made anew where what it was made from has changed.
 # usage: tests/mistakes.sh [CRATE..]     (in the repository's root; JOBS crates at a time, or else one for each processor and 4 GB of free memory)
 set -uo pipefail
 work=$(mktemp -d) || exit 2
@@ -127,6 +127,8 @@ below=$({
 for edit in "crates/$crate"/must-fail/*.edit; do
     logs=target/must-fail/$crate/$(basename "$edit" .edit)
     mkdir -p "$(dirname "$logs")"
+    twice=$(sed -n 's/^# refused: //p' "$edit" | sort | uniq -d)
+    [ -z "$twice" ] || tell "names a place twice: ${twice//$'\n'/, }"
     check "$logs.log" || continue
     number=0 is_head=0
     while IFS= read -r line; do
